@@ -1,0 +1,1 @@
+// The order of fitting: runs, and the rule at each position. specs/ has the definitions.

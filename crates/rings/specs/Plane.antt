@@ -1,0 +1,38 @@
+-- Plane and triangulated, said by quantifiers: what the lists must be, whatever the unit tests.
+use Prim.Native.Nat.{ℕ, _+_, _*_, _-_, _≤_, _<_}
+use mathlib.Core.Path.{_≡_}
+use mathlib.Core.Logic.{_≢_}
+use mathlib.Core.List.{List, [], _∷_, _++_, map}
+use lib.ListN.{length}
+use Rattle.words.specs.Numbers.{sumOf}
+use Rattle.words.specs.Lists.{In, Different}
+use Rattle.rings.specs.Rings.{ring, around}
+
+-- b follows a at u
+abbrev pub Follows : List (List ℕ) → ℕ → ℕ → ℕ → Type 0
+Follows G u a b = (X Y : List ℕ) × (around (ring G u) ≡ X ++ a ∷ b ∷ Y)
+
+-- u can be reached from v1 along wires
+pub data Reached (G : List (List ℕ)) (v1 : ℕ) : ℕ → Type 0 where
+  here : Reached G v1 v1
+  along : {u w : ℕ} → Reached G v1 u → In w (ring G u) → Reached G v1 w
+
+-- a wire with both ends among these posts
+abbrev pub Wire : List (List ℕ) → List ℕ → ℕ → ℕ → Type 0
+Wire G placed a b = In a placed × In b placed × In b (ring G a)
+
+-- the lists form a triangulated plane graph with the outer triangle v1, v2, vn
+pub record Plane (G : List (List ℕ)) (v1 v2 vn : ℕ) : Type 0 where
+  -- Rings
+  pub below : (u v : ℕ) → u < length G → In v (ring G u) → v < length G
+  pub other : (u v : ℕ) → u < length G → In v (ring G u) → v ≢ u
+  pub once : (u : ℕ) → u < length G → Different (ring G u)
+  pub returned : (u v : ℕ) → u < length G → In v (ring G u) → In u (ring G v)
+  -- Triangles
+  pub triangle : (u v w : ℕ) → u < length G → Follows G u v w → Follows G v w u
+  -- Connected, with 6n-12 entries
+  pub connected : (u : ℕ) → u < length G → Reached G v1 u
+  pub entries : sumOf (map length G) ≡ 6 * length G - 12
+  -- Outer triangle
+  pub bottom : In v2 (ring G v1)
+  pub outer : Follows G v2 v1 vn

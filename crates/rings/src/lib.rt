@@ -1,0 +1,1 @@
+// Rings: a post's neighbours counter-clockwise, read around. specs/ has the definitions.

@@ -1,0 +1,95 @@
+-- The three demands, as the teacher wrote them, of any unit with the three services.
+use Prim.Native.Nat.{ℕ, _+_, _*_, _-_, _≤_, _<_}
+use mathlib.Core.Path.{_≡_}
+use mathlib.Core.Bool.{Bool, true, false}
+use mathlib.Core.Logic.{_↔_}
+use mathlib.Core.List.{List, [], _∷_, _++_}
+use lib.ListN.{length, take, drop}
+use Rattle.words.specs.Lists.{In}
+use Rattle.words.specs.Positions.{post}
+use Rattle.block.specs.Block.{posts, order, lists, Framed}
+use Rattle.rings.specs.Plane.{Plane, Wire}
+use Rattle.order.specs.Canonical.{Canonical}
+use Rattle.placing.specs.Stages.{Stage, stage}
+use Rattle.placing.specs.Records.{recordOf, entriesOf}
+use Rattle.placing.specs.declared.Record.{Record}
+use Rattle.drawing.specs.Meeting.{Places, OnGrid, NoneMeet}
+use Rattle.unit.specs.Lamp.{Row, checkRows, sheetRows, postRows}
+use Rattle.unit.specs.Replies.{Reply, accepted, refused, stageAt, checkReply, sheetReply, bufferAfter, postReply}
+
+-- A unit: what each service replies to everything that may be handed in, and the sheet buffer after a sheet call. A block is a list of bytes, a
+-- buffer the list of its entries; stages and names are any whole numbers.
+pub record Services : Type 0 where
+  pub check : List ℕ → Reply ℕ
+  pub sheet : List ℕ → ℕ → List ℕ → Reply ℕ
+  pub buffer : List ℕ → ℕ → List ℕ → List ℕ
+  pub post : List ℕ → ℕ → ℕ → Reply Record
+
+-- the unit that the paper describes
+abbrev pub thePaper : Services
+thePaper = record { check = checkReply; sheet = sheetReply; buffer = bufferAfter; post = postReply }
+
+abbrev pub Accepted : {A : Type 0} → Reply A → Type 0
+Accepted {A} r = (a : A) × (r ≡ accepted a)
+
+abbrev pub Refused : {A : Type 0} → Reply A → Type 0
+Refused r = (number place : ℕ) × (r ≡ refused number place)
+
+-- ---- 1. Every input gets a defined reply.
+
+-- none of these rows applies
+abbrev pub NoneApplies : List Row → List ℕ → Type 0
+NoneApplies [] s = Unit {0}
+NoneApplies (r ∷ rows) s = (r .when s ≡ false) × NoneApplies rows s
+
+-- The reply that the table fixes, in its order: a refusal is the number and place of a row that applies while none before it does; and
+-- acceptance means that none applies.
+pub data Fixed {A : Type 0} (rows : List Row) (s : List ℕ) (answer : A) : Reply A → Type 0 where
+  accepts : NoneApplies rows s → Fixed rows s answer (accepted answer)
+  refuses : (before : List Row) (r : Row) (after : List Row) → rows ≡ before ++ r ∷ after → NoneApplies before s → r .when s ≡ true
+      → Fixed rows s answer (refused (r .number) (r .place s))
+
+pub record Demand1 (U : Services) : Type 0 where
+  -- the unit accepts or gives the refusal and place the paper fixes, in its order
+  pub check : (s : List ℕ) → Fixed (checkRows s) s (posts s) (U .check s)
+  pub sheet : (s : List ℕ) (k : ℕ) (b : List ℕ) → Fixed (sheetRows s k (length b)) s (2 * k) (U .sheet s k b)
+  pub post : (s : List ℕ) (k u : ℕ) → Fixed (postRows s k u) s (recordOf (stageAt k s) u) (U .post s k u)
+  -- a refused call changes nothing in the sheet buffer
+  pub unchanged : (s : List ℕ) (k : ℕ) (b : List ℕ) → Refused (U .sheet s k b) → U .buffer s k b ≡ b
+
+-- ---- 2. Accepted exactly when its lists form a triangulated plane graph with the stated outer triangle and its order is canonical.
+
+abbrev pub Sound : List ℕ → Type 0
+Sound s = Plane (lists s) (post (order s) 1) (post (order s) 2) (post (order s) (posts s)) × Canonical (lists s) (order s)
+
+pub record Demand2 (U : Services) : Type 0 where
+  -- a block with the right mark, version, size and sum is accepted exactly when ..
+  pub exactly : (s : List ℕ) → Framed s → Accepted (U .check s) ↔ Sound s
+  -- any other block is refused
+  pub others : (s : List ℕ) → ¬ (Framed s × Sound s) → Refused (U .check s)
+  -- at each stage every post then stands where the shift method puts it: on the sheet, entries beyond 2k as they were; and in its record
+  pub stands : (s : List ℕ) (k : ℕ) (b : List ℕ) → Accepted (U .sheet s k b) → U .buffer s k b ≡ entriesOf (stageAt k s) ++ drop (2 * k) b
+  pub recorded : (s : List ℕ) (k u : ℕ) → Accepted (U .post s k u) → U .post s k u ≡ accepted (recordOf (stageAt k s) u)
+
+-- ---- 3. No stage can short.
+
+-- where the posts stand at stage k; which are v1 to vk
+abbrev pub places : List ℕ → ℕ → Places
+places s k = record { x = stageAt k s .x; y = stageAt k s .y }
+
+abbrev pub Placed : List ℕ → ℕ → ℕ → Type 0
+Placed s k u = In u (take k (order s))
+
+-- a post already standing keeps its height, never moves left, and moves right by at most two columns
+pub record Moves (old new : Places) (u : ℕ) : Type 0 where
+  pub height : new .y u ≡ old .y u
+  pub never-left : old .x u ≤ new .x u
+  pub at-most-two : new .x u ≤ old .x u + 2
+
+pub record Demand3 (U : Services) : Type 0 where
+  -- for each accepted block of n posts and each stage k from 3 to n: different points of the grid 2k-4 wide and k-2 high
+  pub grid : (s : List ℕ) (n k : ℕ) → U .check s ≡ accepted n → 3 ≤ k → k ≤ n → OnGrid (places s k) (Placed s k) (2 * k - 4) (k - 2)
+  -- no two different wires between them meet except at a post they share
+  pub no-short : (s : List ℕ) (n k : ℕ) → U .check s ≡ accepted n → 3 ≤ k → k ≤ n → NoneMeet (places s k) (Wire (lists s) (take k (order s)))
+  -- going from stage k to k+1
+  pub moves : (s : List ℕ) (n k : ℕ) → U .check s ≡ accepted n → 3 ≤ k → k < n → (u : ℕ) → Placed s k u → Moves (places s k) (places s (k + 1)) u

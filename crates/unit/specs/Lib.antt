@@ -1,0 +1,4 @@
+pub mod Lamp
+pub mod Replies
+pub mod Demands
+pub mod Starred

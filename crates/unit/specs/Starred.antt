@@ -1,0 +1,70 @@
+-- The starred cases of the paper, as one table.
+use Prim.Native.Nat.{ℕ, _+_, _*_, _/_, _%_}
+use mathlib.Core.Path.{_≡_}
+use mathlib.Core.List.{List, [], _∷_, _++_, map, flatMap, flatten}
+use lib.ListN.{length, take}
+use Rattle.placing.specs.declared.Record.{Record}
+use Rattle.placing.specs.declared.Standing.the-variants.{Waiting, OnContour, Covered}
+use Rattle.block.specs.Block.{mark}
+use Rattle.rings.specs.Boards.{orderT, listsT, orderD, listsD}
+use Rattle.unit.specs.Replies.{Reply, accepted, refused, checkReply, sheetReply, bufferAfter, postReply}
+
+-- a block from its order, its lists and its sum
+unfoldable pub bytes : List ℕ → List ℕ
+bytes l = flatMap (λ w. w / 256 ∷ w % 256 ∷ []) l
+
+unfoldable pub blockOf : List ℕ → List (List ℕ) → ℕ → List ℕ
+blockOf order lists sum = mark ++ bytes (1 ∷ length order ∷ order ++ map length lists ++ flatten lists ++ sum ∷ [])
+
+-- Board T, and its sum
+unfoldable pub T : ℕ → List ℕ
+T sum = blockOf orderT listsT sum
+
+-- Board D, with an order and its sum
+unfoldable pub D : List ℕ → ℕ → List ℕ
+D order sum = blockOf order listsD sum
+
+-- a row: a call, and what it must give. Of a sheet call the buffer before and after
+pub data Case : Type 0 where
+  check : List ℕ → Reply ℕ → Case
+  sheet : List ℕ → ℕ → List ℕ → Reply ℕ → List ℕ → Case
+  post : List ℕ → ℕ → ℕ → Reply Record → Case
+
+abbrev pub Holds : Case → Type 0
+Holds (check s r) = checkReply s ≡ r
+Holds (sheet s k b r after) = (sheetReply s k b ≡ r) × (bufferAfter s k b ≡ after)
+Holds (post s k u r) = postReply s k u ≡ r
+
+abbrev pub AllHold : List Case → Type 0
+AllHold [] = Unit {0}
+AllHold (c ∷ l) = Holds c × AllHold l
+
+unfoldable pub starred : List Case
+starred =
+    -- 1: T, stage 3
+    sheet (T 236) 3 (9 ∷ 9 ∷ 9 ∷ 9 ∷ 9 ∷ 9 ∷ 9 ∷ []) (accepted 6) (0 ∷ 0 ∷ 2 ∷ 0 ∷ 1 ∷ 1 ∷ 9 ∷ [])
+    -- 2, 3, 4: D, stages 3, 4 and 5
+    ∷ sheet (D orderD 285) 3 (9 ∷ 9 ∷ 9 ∷ 9 ∷ 9 ∷ 9 ∷ 9 ∷ []) (accepted 6) (0 ∷ 0 ∷ 2 ∷ 0 ∷ 1 ∷ 1 ∷ 9 ∷ [])
+    ∷ sheet (D orderD 285) 4 (9 ∷ 9 ∷ 9 ∷ 9 ∷ 9 ∷ 9 ∷ 9 ∷ 9 ∷ 9 ∷ []) (accepted 8) (0 ∷ 0 ∷ 4 ∷ 0 ∷ 2 ∷ 1 ∷ 2 ∷ 2 ∷ 9 ∷ [])
+    ∷ sheet (D orderD 285) 5 (9 ∷ 9 ∷ 9 ∷ 9 ∷ 9 ∷ 9 ∷ 9 ∷ 9 ∷ 9 ∷ 9 ∷ 9 ∷ []) (accepted 10) (0 ∷ 0 ∷ 6 ∷ 0 ∷ 3 ∷ 1 ∷ 3 ∷ 2 ∷ 3 ∷ 3 ∷ 9 ∷ [])
+    -- 5: D with two posts in each other's place has the same sum
+    ∷ check (D (0 ∷ 1 ∷ 3 ∷ 2 ∷ 4 ∷ []) 285) (refused 13 3)
+    -- 6: stage 2 and stage 6; stage 5 with 9 entries, and with 10
+    ∷ sheet (D orderD 285) 2 (9 ∷ 9 ∷ 9 ∷ 9 ∷ 9 ∷ []) (refused 15 0) (9 ∷ 9 ∷ 9 ∷ 9 ∷ 9 ∷ [])
+    ∷ post (D orderD 285) 2 0 (refused 15 0)
+    ∷ sheet (D orderD 285) 6 (9 ∷ 9 ∷ 9 ∷ 9 ∷ 9 ∷ 9 ∷ 9 ∷ 9 ∷ 9 ∷ 9 ∷ 9 ∷ 9 ∷ []) (refused 15 0) (9 ∷ 9 ∷ 9 ∷ 9 ∷ 9 ∷ 9 ∷ 9 ∷ 9 ∷ 9 ∷ 9 ∷ 9 ∷ 9 ∷ [])
+    ∷ post (D orderD 285) 6 0 (refused 15 0)
+    ∷ sheet (D orderD 285) 5 (9 ∷ 9 ∷ 9 ∷ 9 ∷ 9 ∷ 9 ∷ 9 ∷ 9 ∷ 9 ∷ []) (refused 16 0) (9 ∷ 9 ∷ 9 ∷ 9 ∷ 9 ∷ 9 ∷ 9 ∷ 9 ∷ 9 ∷ [])
+    ∷ sheet (D orderD 285) 5 (9 ∷ 9 ∷ 9 ∷ 9 ∷ 9 ∷ 9 ∷ 9 ∷ 9 ∷ 9 ∷ 9 ∷ []) (accepted 10) (0 ∷ 0 ∷ 6 ∷ 0 ∷ 3 ∷ 1 ∷ 3 ∷ 2 ∷ 3 ∷ 3 ∷ [])
+    -- 7: D, post 2 at stages 3 and 4
+    ∷ post (D orderD 285) 3 2 (accepted (record { x = 1; y = 1; standing = OnContour 0 1 }))
+    ∷ post (D orderD 285) 4 2 (accepted (record { x = 2; y = 1; standing = Covered 3 }))
+    -- 8: D, post 4 at stage 4; name 5
+    ∷ post (D orderD 285) 4 4 (accepted (record { x = 0; y = 0; standing = Waiting }))
+    ∷ post (D orderD 285) 4 5 (refused 17 0)
+    -- 9: T with sum 237; T with its last byte removed
+    ∷ check (T 237) (refused 6 0)
+    ∷ check (take 32 (T 236)) (refused 5 0)
+    -- 11: D with a name twice in its order, and a corrected sum
+    ∷ check (D (0 ∷ 1 ∷ 2 ∷ 2 ∷ 4 ∷ []) 284) (refused 7 4)
+    ∷ []
