@@ -1,12 +1,11 @@
 -- What a block's bytes hold, and its rules 1 to 8. Every definition is total: bytes that are not there read as 0.
 use Prim.Native.Nat.{ℕ, zero, suc, _+_, _*_, _-_, _≤_}
 use mathlib.Core.Path.{_≡_}
-use mathlib.Core.Bool.{Bool, true, false, not, _||_}
+use mathlib.Core.Bool.{Bool, true, false, _&&_, _||_}
 use mathlib.Core.List.{List, [], _∷_}
 use lib.Dec.{ltb, leb, eqb}
 use lib.ListN.{length, getD, take}
 use Rattle.words.specs.Numbers.{wordAt, wordsAt, wrapped}
-use Rattle.words.specs.First.{first, some}
 use Rattle.words.specs.Lists.{mem}
 use Rattle.words.specs.Positions.{post, earlier}
 use Rattle.block.specs.Layout.{limit, versionAt, postsAt, orderAt, degreesAt, listsAt, sumAt, size}
@@ -58,7 +57,7 @@ pub record Framed (s : List ℕ) : Type 0 where
 -- ---- the tests of steps 2, 7 and 8
 
 unfoldable pub marked : List ℕ → Bool
-marked s = not (some 0 3 (λ i. not (eqb (getD s i 0) (getD mark i 0))))
+marked s = eqb (getD s 0 0) 0x50 && (eqb (getD s 1 0) 0x47 && eqb (getD s 2 0) 0x42)
 
 -- the order entry in position k is n or more, or repeats an earlier one
 unfoldable pub badEntry : ℕ → List ℕ → ℕ → Bool

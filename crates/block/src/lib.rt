@@ -1,1 +1,153 @@
-// The block: its layout from n, its header, order, degrees and lists. specs/ has the definitions.
+// The block: its layout from n, the tests of its header, its order and its degrees (steps 1 to 8).
+ghost use mathlib.Core.Path.{_≡_};
+ghost use mathlib.Core.Bool.{Bool, true, false};
+ghost use Prim.Native.Nat.{ℕ, _+_, _*_, _-_, _≤_, _<_};
+ghost use lib.Dec.{eqb};
+ghost use lib.ListN.{length, getD, take};
+ghost use Rattle.words.specs.First.{first};
+ghost use Rattle.words.specs.Lists.{mem};
+ghost use Rattle.words.specs.Numbers.{wordsAt, sumOf};
+ghost use Rattle.block.specs.Layout.{limit, postsAt, orderAt, degreesAt, listsAt, entries, sumAt, size};
+ghost use Rattle.block.specs.Block.{marked, badEntry, badDegree};
+
+// A block's number of posts, which fixes where its parts begin.
+pub struct Block {
+    pub n: usize,
+}
+
+impl Block {
+    // n is from 3 to this.
+    pub const LIMIT: usize = 1000;
+
+    // The most entries that the neighbour lists have together.
+    pub const ENTRIES: usize = 5988;
+
+    pub const SHORTEST: usize = 33;
+
+    pub const LONGEST: usize = 15985;
+
+    pub const VERSION_AT: usize = 3;
+
+    pub const POSTS_AT: usize = 5;
+
+    pub const ORDER_AT: usize = 7;
+
+    pub fn degrees_at(self) -> usize
+        requires { ⌜ self .n ≤ limit ⌝ }
+        ensures { λ r. ⌜ r ≡ degreesAt (self .n) ⌝ }
+    {
+        Block::ORDER_AT + 2 * self.n
+    }
+
+    pub fn lists_at(self) -> usize
+        requires { ⌜ self .n ≤ limit ⌝ }
+        ensures { λ r. ⌜ r ≡ listsAt (self .n) ⌝ }
+    {
+        Block::ORDER_AT + 4 * self.n
+    }
+
+    pub fn entries(self) -> usize
+        requires { ⌜ (3 ≤ self .n) × (self .n ≤ limit) ⌝ }
+        ensures { λ r. ⌜ r ≡ entries (self .n) ⌝ }
+    {
+        6 * self.n - 12
+    }
+
+    pub fn sum_at(self) -> usize
+        requires { ⌜ (3 ≤ self .n) × (self .n ≤ limit) ⌝ }
+        ensures { λ r. ⌜ r ≡ sumAt (self .n) ⌝ }
+    {
+        16 * self.n - 17
+    }
+
+    pub fn size(self) -> usize
+        requires { ⌜ (3 ≤ self .n) × (self .n ≤ limit) ⌝ }
+        ensures { λ r. ⌜ r ≡ size (self .n) ⌝ }
+    {
+        16 * self.n - 15
+    }
+}
+
+// The mark PGB stands at the beginning.
+pub fn is_marked(s: &[u8]) -> bool
+    requires { ⌜ 7 ≤ length (now s) ⌝ }
+    ensures { λ r. ⌜ r ≡ marked (now (s .entry)) ⌝ }
+{
+    if s[0] != 0x50 {
+        return false;
+    }
+    if s[1] != 0x47 {
+        return false;
+    }
+    s[2] == 0x42
+}
+
+// The first position whose entry is n or more or repeats an earlier one, or n + 1. The names seen so far are marked.
+pub fn first_bad_entry(vs: &[u16], marks: &mut [u8]) -> usize
+    requires { ⌜ (length (now vs) ≤ length (now marks)) × (length (now vs) ≤ limit) × ((a : ℕ) → getD (now marks) a 0 ≡ 0) ⌝ }
+    ensures { λ r. ⌜ r ≡ first 1 (length (now (vs .entry))) (badEntry (length (now (vs .entry))) (now (vs .entry))) ⌝ }
+{
+    let n = vs.len();
+    let mut k = 1;
+    while k <= n {
+        let a = words::number(vs[k - 1]);
+        if n <= a {
+            return k;
+        }
+        if marks[a] == 1 {
+            return k;
+        }
+        marks[a] = 1;
+        k += 1;
+    }
+    k
+}
+
+// The lowest name whose degree is below 2 or above n-1, or n.
+pub fn first_bad_degree(ds: &[u16]) -> usize
+    requires { ⌜ (1 ≤ length (now ds)) × (length (now ds) ≤ limit) ⌝ }
+    ensures { λ r. ⌜ r ≡ first 0 (length (now (ds .entry))) (badDegree (length (now (ds .entry))) (now (ds .entry))) ⌝ }
+{
+    let n = ds.len();
+    let mut u = 0;
+    while u < n {
+        let d = words::number(ds[u]);
+        if d < 2 {
+            return u;
+        }
+        if n - 1 < d {
+            return u;
+        }
+        u += 1;
+    }
+    u
+}
+
+// The degrees' total.
+pub fn total(ds: &[u16]) -> usize
+    requires { ⌜ length (now ds) ≤ limit ⌝ }
+    ensures { λ r. ⌜ r ≡ sumOf (now (ds .entry)) ⌝ }
+{
+    let mut t = 0;
+    let mut u = 0;
+    while u < ds.len() {
+        t += words::number(ds[u]);
+        u += 1;
+    }
+    t
+}
+
+// Where each list begins among all entries, and after the last where it ends.
+pub fn starts(ds: &[u16], at: &mut [u16])
+    requires { ⌜ (length (now at) ≡ length (now ds) + 1) × (sumOf (now ds) ≤ 65535) ⌝ }
+    ensures { λ r. ⌜ ((u : ℕ) → u < length (now (at .exit)) → getD (now (at .exit)) u 0 ≡ sumOf (take u (now (ds .entry)))) ⌝ }
+{
+    let mut t = 0;
+    let mut u = 0;
+    while u < ds.len() {
+        at[u] = t;
+        t += ds[u];
+        u += 1;
+    }
+    at[u] = t;
+}
