@@ -1,3 +1,4 @@
+pub mod Boards
 pub mod Rings
 pub mod Plane
-pub mod Boards
+pub mod Held

@@ -1,1 +1,190 @@
-// Rings: a post's neighbours counter-clockwise, read around. specs/ has the definitions.
+// Rings: a post's neighbours counter-clockwise, read around; ring rule, triangle rule and outer triangle (steps 9 to 11). All entries stand one
+// after the other in `ents`; the list of u goes from at[u] to at[u + 1].
+ghost use mathlib.Core.Path.{_≡_};
+ghost use mathlib.Core.Bool.{Bool, true, false, not, cond, _&&_};
+ghost use Prim.Native.Nat.{ℕ, _+_, _*_, _-_, _≤_, _<_};
+ghost use lib.Dec.{eqb};
+ghost use lib.ListN.{length, getD};
+ghost use lib.Seq.{slice};
+ghost use Rattle.words.specs.First.{first};
+ghost use Rattle.words.specs.Lists.{mem, count};
+ghost use Rattle.block.specs.Layout.{limit};
+ghost use Rattle.rings.specs.Rings.{around, next, entryRule, ringRule, follows, triangleRule, outerRule};
+ghost use Rattle.rings.specs.Held.{held, Cuts};
+
+fn one_if_same(a: u16, b: u16) -> usize
+    ensures { λ r. ⌜ (r ≡ cond (eqb a b) 1 0) × (r ≤ 1) ⌝ }
+{
+    if a == b { 1 } else { 0 }
+}
+
+// How often a stands among the entries from i to e.
+fn times(ents: &[u16], i: usize, e: usize, a: u16) -> usize
+    requires { ⌜ (i ≤ e) × (e ≤ length (now ents)) ⌝ }
+    ensures { λ r. ⌜ r ≡ count (eqb a) (slice i e (now (ents .entry))) ⌝ }
+{
+    let mut c = 0;
+    let mut j = i;
+    while j < e {
+        c += one_if_same(a, ents[j]);
+        j += 1;
+    }
+    c
+}
+
+// a stands among the entries from i to e.
+pub fn holds(ents: &[u16], i: usize, e: usize, a: u16) -> bool
+    requires { ⌜ (i ≤ e) × (e ≤ length (now ents)) ⌝ }
+    ensures { λ r. ⌜ r ≡ mem (slice i e (now (ents .entry))) a ⌝ }
+{
+    let mut j = i;
+    while j < e {
+        if a == ents[j] {
+            return true;
+        }
+        j += 1;
+    }
+    false
+}
+
+// The entry v of u's list breaks the ring rule.
+fn breaks(ents: &[u16], at: &[u16], u: usize, v: u16) -> bool
+    requires { ⌜ Cuts (now at) (now ents) × (u + 1 < length (now at)) × (length (now at) ≤ limit + 1) ⌝ }
+    ensures { λ r. ⌜ r ≡ not (entryRule (held (now (at .entry)) (now (ents .entry))) u v) ⌝ }
+{
+    let w = words::number(v);
+    if at.len() - 1 <= w {
+        return true;
+    }
+    if w == u {
+        return true;
+    }
+    if times(ents, words::number(at[u]), words::number(at[u + 1]), v) != 1 {
+        return true;
+    }
+    !holds(
+        ents,
+        words::number(at[w]),
+        words::number(at[w + 1]),
+        u as u16,
+    )
+}
+
+// The lowest name whose list has an entry that breaks the ring rule, or n.
+pub fn first_bad_ring(ents: &[u16], at: &[u16]) -> usize
+    requires { ⌜ Cuts (now at) (now ents) × (1 ≤ length (now at)) × (length (now at) ≤ limit + 1) ⌝ }
+    ensures { λ r. ⌜ r ≡ first 0 (length (now (at .entry)) - 1) (λ u. not (ringRule (held (now (at .entry)) (now (ents .entry))) u)) ⌝ }
+{
+    let n = at.len() - 1;
+    let mut u = 0;
+    'names: loop {
+        if n <= u {
+            break 'names n;
+        }
+        let e = words::number(at[u + 1]);
+        let mut i = words::number(at[u]);
+        while i < e {
+            if breaks(ents, at, u, ents[i]) {
+                break 'names u;
+            }
+            i += 1;
+        }
+        u += 1;
+    }
+}
+
+// The entry after place i, of a list from b to e that is read around.
+pub fn after(ents: &[u16], b: usize, e: usize, i: usize) -> u16
+    requires { ⌜ (b ≤ i) × (i < e) × (e ≤ length (now ents)) ⌝ }
+    ensures { λ r. ⌜ r ≡ getD (around (slice b e (now (ents .entry)))) (i - b + 1) 0 ⌝ }
+{
+    if i + 1 < e {
+        return ents[i + 1];
+    }
+    ents[b]
+}
+
+// At place i stands a, and c after it.
+fn linked(ents: &[u16], b: usize, e: usize, i: usize, a: u16, c: u16) -> bool
+    requires { ⌜ (b ≤ i) × (i < e) × (e ≤ length (now ents)) ⌝ }
+    ensures { λ r. ⌜ r ≡ (eqb (getD (around (slice b e (now (ents .entry)))) (i - b) 0) a && eqb (getD (around (slice b e (now (ents .entry)))) (i - b + 1) 0) c) ⌝ }
+{
+    if ents[i] != a {
+        return false;
+    }
+    after(ents, b, e, i) == c
+}
+
+// In the list from b to e, read around, c follows a.
+fn is_next(ents: &[u16], b: usize, e: usize, a: u16, c: u16) -> bool
+    requires { ⌜ (b ≤ e) × (e ≤ length (now ents)) ⌝ }
+    ensures { λ r. ⌜ r ≡ next a c (around (slice b e (now (ents .entry)))) ⌝ }
+{
+    let mut i = b;
+    while i < e {
+        if linked(ents, b, e, i, a, c) {
+            return true;
+        }
+        i += 1;
+    }
+    false
+}
+
+// c follows a at v.
+fn is_after(ents: &[u16], at: &[u16], v: u16, a: u16, c: u16) -> bool
+    requires { ⌜ Cuts (now at) (now ents) × (length (now at) ≤ limit + 1) ⌝ }
+    ensures { λ r. ⌜ r ≡ follows (held (now (at .entry)) (now (ents .entry))) v a c ⌝ }
+{
+    let w = words::number(v);
+    if at.len() <= w + 1 {
+        return false;
+    }
+    is_next(ents, words::number(at[w]), words::number(at[w + 1]), a, c)
+}
+
+// The triangle rule holds at u for the entry at place i, of u's list from b to e, and the one after it.
+fn closes(ents: &[u16], at: &[u16], u: usize, b: usize, e: usize, i: usize) -> bool
+    requires { ⌜ Cuts (now at) (now ents) × (length (now at) ≤ limit + 1) × (b ≤ i) × (i < e) × (e ≤ length (now ents)) × (u ≤ limit) ⌝ }
+    ensures { λ r. ⌜ r ≡ follows (held (now (at .entry)) (now (ents .entry))) (getD (around (slice b e (now (ents .entry)))) (i - b) 0) (getD (around (slice b e (now (ents .entry)))) (i - b + 1) 0) u ⌝ }
+{
+    is_after(ents, at, ents[i], after(ents, b, e, i), u as u16)
+}
+
+// The lowest name at which the triangle rule is broken, or n.
+pub fn first_bad_triangle(ents: &[u16], at: &[u16]) -> usize
+    requires { ⌜ Cuts (now at) (now ents) × (1 ≤ length (now at)) × (length (now at) ≤ limit + 1) ⌝ }
+    ensures { λ r. ⌜ r ≡ first 0 (length (now (at .entry)) - 1) (λ u. not (triangleRule (held (now (at .entry)) (now (ents .entry))) u)) ⌝ }
+{
+    let n = at.len() - 1;
+    let mut u = 0;
+    'names: loop {
+        if n <= u {
+            break 'names n;
+        }
+        let b = words::number(at[u]);
+        let e = words::number(at[u + 1]);
+        let mut i = b;
+        while i < e {
+            if !closes(ents, at, u, b, e, i) {
+                break 'names u;
+            }
+            i += 1;
+        }
+        u += 1;
+    }
+}
+
+// The outer triangle: v2 is a neighbour of v1, and vn follows v1 at v2.
+pub fn is_outer(ents: &[u16], at: &[u16], v1: u16, v2: u16, vn: u16) -> bool
+    requires { ⌜ Cuts (now at) (now ents) × (length (now at) ≤ limit + 1) ⌝ }
+    ensures { λ r. ⌜ r ≡ outerRule (held (now (at .entry)) (now (ents .entry))) v1 v2 vn ⌝ }
+{
+    let w = words::number(v1);
+    if at.len() <= w + 1 {
+        return false;
+    }
+    if !holds(ents, words::number(at[w]), words::number(at[w + 1]), v2) {
+        return false;
+    }
+    is_after(ents, at, v2, v1, vn)
+}

@@ -1,0 +1,39 @@
+use borrow.Author.Needs.{needs}
+use Rattle.rings.proofs.linked.Statement.{statement}
+use Rattle.rings.proofs.linked.Tie as tie
+use Rattle.rings.proofs.linked.Reads as reads
+use Rattle.rings.proofs.linked.Lts as lts
+use Rattle.rings.proofs.after.Reads as after-reads
+use native.Mathlib.Omega.{arith}
+use mathlib.Core.Path.{refl, sym, _∙_}
+use mathlib.Core.Bool.{Bool, true, false, _&&_}
+use lib.Dec.{eqb}
+use borrow.Author.Tests.{eq-eqb, ne-eqb}
+use Rattle.rings.proofs.Around.{here-not, here-is}
+
+-- src/lib.rt:107:8
+mul-if1 : tie.Need-mul-if1
+mul-if1 c = search needs
+
+-- src/lib.rt:107:8
+shared-slice-read-if1 : tie.Need-shared-slice-read-if1
+shared-slice-read-if1 c = search needs
+
+-- src/lib.rt:108:9
+returns : tie.Need-returns
+returns c =
+    let a = c .before .before .before .args in
+    here-not (a .ents .now) (a .b) (a .e) (a .i) (omega arith) (omega arith) (omega arith) (a .a) _ (c .if1 .taken)
+
+-- src/lib.rt:110:5
+after-requires : tie.Need-after-requires
+after-requires c κs = search needs
+
+-- src/lib.rt:103:1
+returns-2 : tie.Need-returns-2
+returns-2 c =
+    let a = c .before .before .before .before .args in
+    rw (c .after .ensures) (here-is (a .ents .now) (a .b) (a .e) (a .i) (omega arith) (omega arith) (omega arith) (a .a) _ (c .before .if1 .left))
+
+pub linked-spec : {M : Type 1} → statement M
+linked-spec = tie.close (tie.spec mul-if1 shared-slice-read-if1 returns after-requires returns-2)

@@ -1,0 +1,80 @@
+use Rattle.rings.proofs.times.Statement.{statement}
+use Rattle.rings.proofs.times.Tie as tie
+use Rattle.rings.proofs.times.Reads as reads
+use Rattle.rings.proofs.times.Lts as lts
+use Rattle.rings.proofs.one_if_same.Reads as one-if-same-reads
+use native.Mathlib.Omega.{arith}
+use Prim.Native.Nat.{_≤_, _+_, _-_}
+use mathlib.Core.Path.{_≡_, refl, sym, _∙_}
+use lib.Dec.{eqb}
+use lib.ListN.{length, getD}
+use lib.Seq.{slice}
+use Rattle.words.specs.Lists.{count}
+use Rattle.rings.proofs.Around.{count-step, count-end}
+use borrow.Author.Needs.{needs}
+
+abbrev Inv-loop : tie.InvT-loop
+Inv-loop ents i e a c₀ j₀ c j = (i ≤ j) × (j ≤ e) × (c + count (eqb a) (slice j e ents) ≡ count (eqb a) (slice i e ents)) × (c ≤ j)
+
+abbrev μ-loop : tie.MeasureT-loop
+μ-loop ents i e a c₀ j₀ c j = e - j
+
+-- src/lib.rt:28:5
+loop-holds : tie.Need-loop-holds Inv-loop μ-loop
+loop-holds c = search needs
+
+-- src/lib.rt:29:29
+mul-one-if-same : tie.Need-mul-one-if-same Inv-loop μ-loop
+mul-one-if-same c = search needs
+
+-- src/lib.rt:29:29
+shared-slice-read-one-if-same : tie.Need-shared-slice-read-one-if-same Inv-loop μ-loop
+shared-slice-read-one-if-same c = search needs
+
+-- src/lib.rt:29:14
+one-if-same-requires : tie.Need-one-if-same-requires Inv-loop μ-loop
+one-if-same-requires c κs = search needs
+
+-- src/lib.rt:29:9
+add-c : tie.Need-add-c Inv-loop μ-loop
+add-c c = search needs
+
+-- src/lib.rt:30:9
+add-j : tie.Need-add-j Inv-loop μ-loop
+add-j c = search needs
+
+-- src/lib.rt:28:5
+loop-less : tie.Need-loop-less Inv-loop μ-loop
+loop-less c = search needs
+
+-- src/lib.rt:28:5
+loop-again : tie.Need-loop-again Inv-loop μ-loop
+loop-again c =
+    let v = c .before .before .before .loop in
+    let a = c .before .before .before .before .before .args in
+    omega (arith, count-step (a .ents .now) (v .j) (a .e) (omega arith) (omega arith) (eqb (a .a)), c .one-if-same .ensures)
+
+-- src/lib.rt:22:1
+returns : tie.Need-returns Inv-loop μ-loop
+returns c =
+    let v = c .before .loop in
+    let a = c .before .before .before .args in
+    let q : v .j ≡ a .e = omega arith in
+    let z : count (eqb (a .a)) (slice (v .j) (a .e) (a .ents .now)) ≡ 0 = rw q (count-end (a .ents .now) (a .e) (eqb (a .a))) in
+    omega arith
+
+pub times-spec : {M : Type 1} → statement M
+times-spec =
+    tie.close
+    (tie.spec
+    Inv-loop
+    μ-loop
+    loop-holds
+    mul-one-if-same
+    shared-slice-read-one-if-same
+    one-if-same-requires
+    add-c
+    add-j
+    loop-less
+    loop-again
+    returns)
