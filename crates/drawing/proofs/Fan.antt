@@ -6,7 +6,7 @@ use native.Mathlib.Omega.{arith}
 use Rattle.drawing.specs.Meeting.{Places, Point, At}
 use Rattle.drawing.proofs.Numbers.{times, turned, apart}
 
--- the point lies on the segment from a to b, and its d is the sum of the weights: then no products with d
+-- the point lies on the segment from a to b, given over the sum of its weights
 pub record Along (s : Places) (a b : ℕ) (P : Point) : Type 0 where
   pub i : ℕ
   pub j : ℕ
@@ -118,13 +118,15 @@ module _ (s : Places) {a b c : ℕ} {P : Point} (turn : Turn s a b c) where
           from = u .from;
           to = h;
           low =
-              fan-a (x a) (y a) (x b) (y b) (x c) (y c) X Y d (x b - x a) (x c - x a) (X - x a * d) turn (omega arith) (omega arith) (omega (arith, u .from)) (u .low) (omega arith);
+              fan-a (x a) (y a) (x b) (y b) (x c) (y c) X Y d (x b - x a) (x c - x a) (X - x a * d) turn
+              (omega arith) (omega arith) (omega (arith, u .from)) (u .low) (omega arith);
         }
 
     pub left-only : Along s a c P → At s a P
     left-only o =
         let z : X - x a * d ≡ 0 =
-        only-a (x a) (y a) (x b) (y b) (x c) (y c) X Y d (x b - x a) (x c - x a) (X - x a * d) turn (omega arith) (omega arith) (omega (arith, u .from)) (u .low) (on-high s o) in
+        only-a (x a) (y a) (x b) (y b) (x c) (y c) X Y d (x b - x a) (x c - x a) (X - x a * d) turn
+        (omega arith) (omega arith) (omega (arith, u .from)) (u .low) (on-high s o) in
         on-left s ac o (omega arith)
 
   -- at c: under the wire bc is under ac
@@ -135,11 +137,13 @@ module _ (s : Places) {a b c : ℕ} {P : Point} (turn : Turn s a b c) where
           from = h;
           to = u .to;
           low =
-              fan-c (x a) (y a) (x b) (y b) (x c) (y c) X Y d (x c - x b) (x c - x a) (x c * d - X) turn (omega arith) (omega arith) (omega (arith, u .to)) (u .low) (omega arith);
+              fan-c (x a) (y a) (x b) (y b) (x c) (y c) X Y d (x c - x b) (x c - x a) (x c * d - X) turn
+              (omega arith) (omega arith) (omega (arith, u .to)) (u .low) (omega arith);
         }
 
     pub right-only : Along s a c P → At s c P
     right-only o =
         let z : x c * d - X ≡ 0 =
-        only-c (x a) (y a) (x b) (y b) (x c) (y c) X Y d (x c - x b) (x c - x a) (x c * d - X) turn (omega arith) (omega arith) (omega (arith, u .to)) (u .low) (on-high s o) in
+        only-c (x a) (y a) (x b) (y b) (x c) (y c) X Y d (x c - x b) (x c - x a) (x c * d - X) turn
+        (omega arith) (omega arith) (omega (arith, u .to)) (u .low) (on-high s o) in
         on-right s ac o (omega arith)

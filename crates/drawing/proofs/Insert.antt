@@ -54,7 +54,9 @@ module _ (s : Places) (v q : ℕ) (R : List ℕ) where
         old = λ u w e. was (was e);
         joined = λ w. elim [ inl e ↦ inr (rw e (was new)) | inr (inl e) ↦ inl (rw e new) | inr (inr e) ↦ absurd e ];
       }
-  insert E L p (m ∷ M) k pv vq t = by-cmp (x v) (x m) before (λ e. absurd (t .0 .off (sym e))) (λ h. after (insert E (L ++ p ∷ []) m M (subst (K s E) (sym (append-assoc L (p ∷ []) _)) k) h vq (t .1)))
+  insert E L p (m ∷ M) k pv vq t =
+      by-cmp (x v) (x m) before (λ e. absurd (t .0 .off (sym e)))
+      (λ h. after (insert E (L ++ p ∷ []) m M (subst (K s E) (sym (append-assoc L (p ∷ []) _)) k) h vq (t .1)))
     where
       before : x v < x m → Grown s E v (p ∷ m ∷ (M ++ q ∷ [])) (L ++ p ∷ v ∷ q ∷ R)
       before h =

@@ -79,7 +79,7 @@ module _ (s : Places) {E : ℕ → ℕ → Type 0} {C : List ℕ} (W : Wires s E
       meet' new (was i) o p = h _ _ _ i p o
       meet' new new o p = same refl refl
 
--- the wires, and a contour of them above them
+-- K: the wires, and a contour of them above them
 pub record K (s : Places) (E : ℕ → ℕ → Type 0) (C : List ℕ) : Type 0 where
   pub wires : Wires s E C
   pub chain : Chain E C
@@ -101,7 +101,8 @@ start s a b h = record { wires = record { right = right'; roof = roof'; meet = m
     meet' ground ground o p = same refl refl
 
 -- a new post v over the neighbours a and b
-module _ (s : Places) (E : ℕ → ℕ → Type 0) (L R : List ℕ) (a b v : ℕ) (k : K s E (L ++ a ∷ b ∷ R)) (av : s .x a < s .x v) (vb : s .x v < s .x b) (turn : Turn s a b v) where
+module _ (s : Places) (E : ℕ → ℕ → Type 0) (L R : List ℕ) (a b v : ℕ) (k : K s E (L ++ a ∷ b ∷ R)) (av : s .x a < s .x v)
+    (vb : s .x v < s .x b) (turn : Turn s a b v) where
   open Places s using (x, y)
 
   tail : Chain E (a ∷ b ∷ R)
@@ -151,7 +152,8 @@ module _ (s : Places) (E : ℕ → ℕ → Type 0) (L R : List ℕ) (a b v : ℕ
       record {
         wires = extend s first vb (λ P r. r) (λ P o. roof-in s a P L (v ∷ b ∷ R) (inr (inl (on-under s vb o)))) second;
         chain =
-            chain-swap E₂ a L (b ∷ R) (v ∷ b ∷ R) (chain-map (λ c d e. was (was e)) (L ++ a ∷ b ∷ R) (k .chain)) (was new, (new, chain-map (λ c d e. was (was e)) (b ∷ R) (tail .1)));
+            chain-swap E₂ a L (b ∷ R) (v ∷ b ∷ R) (chain-map (λ c d e. was (was e)) (L ++ a ∷ b ∷ R) (k .chain))
+            (was new, (new, chain-map (λ c d e. was (was e)) (b ∷ R) (tail .1)));
       }
 
 -- the neighbour b cut off by a wire from a to c
@@ -197,5 +199,7 @@ module _ (s : Places) (E : ℕ → ℕ → Type 0) (L R : List ℕ) (a b c : ℕ
   cut =
       record {
         wires = extend s (k .wires) ac' over (λ P o. roof-in s a P L (c ∷ R) (inl (on-under s ac' o))) cut-meet;
-        chain = chain-swap (Add E a c) a L (b ∷ c ∷ R) (c ∷ R) (chain-map (λ c d e. was e) (L ++ a ∷ b ∷ c ∷ R) (k .chain)) (new, chain-map (λ c d e. was e) (c ∷ R) (tail' .1 .1));
+        chain =
+            chain-swap (Add E a c) a L (b ∷ c ∷ R) (c ∷ R) (chain-map (λ c d e. was e) (L ++ a ∷ b ∷ c ∷ R) (k .chain))
+            (new, chain-map (λ c d e. was e) (c ∷ R) (tail' .1 .1));
       }

@@ -44,7 +44,11 @@ in-right u (a ∷ l) m h = inr (in-right u l m h)
 -- the run is on the contour
 pub in-run : (u : ℕ) (L : List ℕ) (p : ℕ) (M : List ℕ) (q : ℕ) (R : List ℕ) → In u (p ∷ (M ++ q ∷ [])) → In u (L ++ p ∷ (M ++ q ∷ R))
 in-run u L p M q R (inl e) = in-right u L _ (inl e)
-in-run u L p M q R (inr h) = in-right u L _ (inr (in-append u M (q ∷ []) (in-left u M (q ∷ R)) (elim [ inl e ↦ in-right u M (q ∷ R) (inl e) | inr i ↦ absurd i ]) h))
+in-run u L p M q R (inr h) = in-right u L _ (inr (in-append u M (q ∷ []) (in-left u M (q ∷ R)) last h))
+  where
+    last : In u (q ∷ []) → In u (M ++ q ∷ R)
+    last (inl e) = in-right u M (q ∷ R) (inl e)
+    last (inr i) = absurd i
 
 -- neighbours are members
 module _ {E F : ℕ → ℕ → Type 0} where
@@ -66,7 +70,8 @@ module _ (E : ℕ → ℕ → Type 0) (a : ℕ) where
 
 -- neighbours of a run: the first is not the last of the run, and the second not the first
 module _ {E F : ℕ → ℕ → Type 0} (q : ℕ) where
-  pub chain-run : (p : ℕ) (M : List ℕ) → ((a b : ℕ) → In a (p ∷ M) → In b (M ++ q ∷ []) → E a b → F a b) → Chain E (p ∷ (M ++ q ∷ [])) → Chain F (p ∷ (M ++ q ∷ []))
+  pub chain-run : (p : ℕ) (M : List ℕ) → ((a b : ℕ) → In a (p ∷ M) → In b (M ++ q ∷ []) → E a b → F a b)
+      → Chain E (p ∷ (M ++ q ∷ [])) → Chain F (p ∷ (M ++ q ∷ []))
   chain-run p [] f c = (f p q (inl refl) (inl refl) (c .0), tt)
   chain-run p (m ∷ M) f c = (f p m (inl refl) (inl refl) (c .0), chain-run m M (λ a b i j. f a b (inr i) (inr j)) (c .1))
 

@@ -13,7 +13,7 @@ use Rattle.drawing.proofs.Fan.{Along, Turn, at-left, at-right}
 use Rattle.drawing.proofs.Lists.{in-run, chain-in}
 use Rattle.drawing.proofs.Points.{both}
 use Rattle.drawing.proofs.Keep.{K, Common, same, shared, Placed, begins, ends, Ground, ground, start, through}
-use Rattle.drawing.proofs.Insert.{Clear, insert}
+use Rattle.drawing.proofs.Insert.{Clear, Grown, insert}
 use Rattle.drawing.proofs.Build.{Build, base, post, Post, Wire, Before, Good, on-contour, top}
 
 no-turn : (xa ya xb yb xv yv : ℕ) → xb ≡ xv → yb ≡ yv → xb * ya + xv * yb + xa * yv < xa * yb + xb * yv + xv * ya → ⊥
@@ -56,49 +56,54 @@ module _ (s : Places) (N : ℕ) (some : 0 < N) where
         off = λ e. no-turn (N * x a + y a) (y a) (N * x b + y b) (y b) (N * x v + y v) (y v) e (column b v i j e) (turn a b v t);
       }
 
-  record Drawn {C : List ℕ} (B : Build C) : Type 1 where
+  record Traced {C : List ℕ} (B : Build C) : Type 1 where
     E : ℕ → ℕ → Type 0
     k : K sheared E C
     wire : (u w : ℕ) → Wire B u w → E u w ⊎ E w u
     placed : (u : ℕ) → Post B u → Placed E u
 
-  drawn : {C : List ℕ} (B : Build C) → Good s B → ((u : ℕ) → Post B u → y u < N) → Drawn B
-  drawn (base a b) g tall =
+  -- with the wires of a new post v
+  grown : (L : List ℕ) (p : ℕ) (M : List ℕ) (q : ℕ) (R : List ℕ) (v : ℕ) (B : Build (L ++ p ∷ (M ++ q ∷ R))) (D : Traced B)
+      → Grown sheared (D .E) v (p ∷ (M ++ q ∷ [])) (L ++ p ∷ v ∷ q ∷ R) → Traced (post L p M q R v B)
+  grown L p M q R v B D r = record { E = r .E'; k = r .k; wire = wire; placed = placed }
+    where
+      wire : (u w : ℕ) → ((u ≡ v) × In w (p ∷ (M ++ q ∷ []))) ⊎ Wire B u w → r .E' u w ⊎ r .E' w u
+      wire u w (inl h) = rw (h .0) (r .joined w (h .1))
+      wire u w (inr h) = elim (D .wire u w h) [ inl e ↦ inl (r .old u w e) | inr e ↦ inr (r .old w u e) ]
+
+      placed : (u : ℕ) → (u ≡ v) ⊎ Post B u → Placed (r .E') u
+      placed u (inl e) = rw e (elim (r .joined p (inl refl)) [ inl j ↦ begins j | inr j ↦ ends j ])
+      placed u (inr h) = elim (D .placed u h) [ begins e ↦ begins (r .old _ _ e) | ends e ↦ ends (r .old _ _ e) ]
+
+  traced : {C : List ℕ} (B : Build C) → Good s B → ((u : ℕ) → Post B u → y u < N) → Traced B
+  traced (base a b) g tall =
       record {
         E = Ground a b;
         k = start sheared a b (before (tall a (inl refl)) g);
         wire = λ u w h. inl (rw (h .0, h .1) ground);
         placed = λ u. elim [ inl e ↦ rw e (begins ground) | inr e ↦ rw e (ends ground) ];
       }
-  drawn (post L p M q R v B) g tall = step (drawn B (g .1) (λ u h. tall u (inr h)))
+  traced (post L p M q R v B) g tall =
+      let D = traced B (g .1) (λ u h. tall u (inr h)) in
+      grown L p M q R v B D
+      (insert sheared v q R (D .E) L p M (D .k) (before (run p (inl refl)) (g .0 .left)) (before (tall v (inl refl)) (g .0 .right))
+      (chain-in (p ∷ (M ++ q ∷ [])) (λ a b i j t. clear v a b (run b j) (tall v (inl refl)) t) (g .0 .over)))
     where
       run : (u : ℕ) → In u (p ∷ (M ++ q ∷ [])) → y u < N
       run u i = tall u (inr (on-contour B u (in-run u L p M q R i)))
 
-      step : Drawn B → Drawn (post L p M q R v B)
-      step D =
-          let r =
-          insert sheared v q R (D .E) L p M (D .k) (before (run p (inl refl)) (g .0 .left)) (before (tall v (inl refl)) (g .0 .right))
-          (chain-in (p ∷ (M ++ q ∷ [])) (λ a b i j t. clear v a b (run b j) (tall v (inl refl)) t) (g .0 .over)) in
-          record {
-            E = r .E';
-            k = r .k;
-            wire = λ u w. elim [ inl h ↦ rw (h .0) (r .joined w (h .1)) | inr h ↦ elim (D .wire u w h) [ inl e ↦ inl (r .old u w e) | inr e ↦ inr (r .old w u e) ] ];
-            placed = λ u. elim [ inl e ↦ rw e (elim (r .joined p (inl refl)) [ inl j ↦ begins j | inr j ↦ ends j ]) | inr h ↦ elim (D .placed u h) [ begins e ↦ begins (r .old _ _ e) | ends e ↦ ends (r .old _ _ e) ] ];
-          }
-
-  module _ {C : List ℕ} (B : Build C) (D : Drawn B) where
+  module _ {C : List ℕ} (B : Build C) (D : Traced B) where
     turn-over : {a b : ℕ} {P : Point} → Along s a b P → Along s b a P
     turn-over o = record { i = o .j; j = o .i; sum = omega (arith, o .sum); isX = omega (arith, o .isX); isY = omega (arith, o .isY) }
 
-    wire' : (u w : ℕ) → Wire B u w ⊎ Wire B w u → D .E u w ⊎ D .E w u
-    wire' u w (inl h) = D .wire u w h
-    wire' u w (inr h) = elim (D .wire w u h) [ inl e ↦ inr e | inr e ↦ inl e ]
+    either : (u w : ℕ) → Wire B u w ⊎ Wire B w u → D .E u w ⊎ D .E w u
+    either u w (inl h) = D .wire u w h
+    either u w (inr h) = elim (D .wire w u h) [ inl e ↦ inr e | inr e ↦ inl e ]
 
     -- different wires meet at a shared post only
-    meets-here : (a b c e : ℕ) → D .E a b ⊎ D .E b a → D .E c e ⊎ D .E e c → ¬ (Same a b c e) → {P : Point} → Along s a b P → Along s c e P
+    meets-here : (a b c e : ℕ) → Wire B a b ⊎ Wire B b a → Wire B c e ⊎ Wire B e c → ¬ (Same a b c e) → {P : Point} → Along s a b P → Along s c e P
         → (z : ℕ) × End z a b × End z c e × At s z P
-    meets-here a b c e h i n {P} o p = go h i
+    meets-here a b c e h i n {P} o p = go (either a b h) (either c e i)
       where
         other : {k l z : ℕ} → End z k l → End z l k
         other (inl q) = inr q
@@ -126,21 +131,26 @@ module _ (s : Places) (N : ℕ) (some : 0 < N) where
         at-w : At sheared w P
         at-w = omega (arith, ap (λ (n : ℕ). N * n) ex)
 
+        one-column : (t : ℕ) → w ≡ t → N * x u + y u ≡ N * x t + y t
+        one-column t a = omega (arith, ap (λ (n : ℕ). N * n) ex, ap (λ (n : ℕ). N * x n) a, ap y a)
+
         go : Placed (D .E) u → Placed (D .E) w → u ≡ w
         go (begins {t} e) f =
-            elim (through sheared (D .k .wires) f e (at-left sheared at-u) at-w) [ inl a ↦ sym a | inr a ↦ absurd (omega (arith, D .k .wires .right e, ap (λ (n : ℕ). N * x n) a, ap y a, at-u, at-w)) ]
+            elim (through sheared (D .k .wires) f e (at-left sheared at-u) at-w)
+            [ inl a ↦ sym a | inr a ↦ absurd (omega (arith, D .k .wires .right e, one-column t a)) ]
         go (ends {t} e) f =
-            elim (through sheared (D .k .wires) f e (at-right sheared at-u) at-w) [ inl a ↦ absurd (omega (arith, D .k .wires .right e, ap (λ (n : ℕ). N * x n) a, ap y a, at-u, at-w)) | inr a ↦ sym a ]
+            elim (through sheared (D .k .wires) f e (at-right sheared at-u) at-w)
+            [ inl a ↦ absurd (omega (arith, D .k .wires .right e, one-column t a)) | inr a ↦ sym a ]
 
 -- ---- the theorem
 module _ (s : Places) {C : List ℕ} (B : Build C) (g : Good s B) where
   pub none-meet : NoneMeet s (λ a b. Wire B a b ⊎ Wire B b a)
   none-meet a b c e h i n P o p =
       let t = top s B in
-      let D = drawn s (t .n) (t .some) B g (t .tall) in
+      let D = traced s (t .n) (t .some) B g (t .tall) in
       let q = both s o p in
-      let r = meets-here s (t .n) (t .some) B D a b c e (wire' s (t .n) (t .some) B D a b h) (wire' s (t .n) (t .some) B D c e i) n (q .first) (q .second) in
+      let r = meets-here s (t .n) (t .some) B D a b c e h i n (q .first) (q .second) in
       (r .0, r .1, r .2, q .back (r .3))
 
   pub different : (u w : ℕ) → Post B u → Post B w → s .x u ≡ s .x w → s .y u ≡ s .y w → u ≡ w
-  different = let t = top s B in distinct-here s (t .n) (t .some) B (drawn s (t .n) (t .some) B g (t .tall))
+  different = let t = top s B in distinct-here s (t .n) (t .some) B (traced s (t .n) (t .some) B g (t .tall))

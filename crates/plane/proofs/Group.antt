@@ -1,5 +1,5 @@
--- Groups: the step of a method, as far as both methods share it. The posts move by their groups, and v takes the place of its run's inner
--- posts on the contour.
+-- Groups: a step of a method that moves the posts right by their groups, the later on the contour the farther. The new post v takes the
+-- place of its run's inner posts on the contour, and their groups.
 use Prim.Native.Nat.{ℕ, _+_, _≤_, _<_}
 use mathlib.Core.Path.{_≡_, ap}
 use mathlib.Core.Logic.{inl, inr}
@@ -12,14 +12,14 @@ use Rattle.drawing.proofs.Lists.{Chain, chain-at, chain-to, chain-join, chain-i
 use Rattle.plane.proofs.Shift.{Moves}
 
 -- the groups up to p's stay, those from q's on move by j, and those between move by i and become v's
-pub record Regroup (s s' : Places) (g g' : ℕ → ℕ) (In : ℕ → Type 0) (p q v i j : ℕ) : Type 0 where
-  pub level : (u : ℕ) → In u → s' .y u ≡ s .y u
-  pub lo : (u : ℕ) → In u → g u ≤ g p → (s' .x u ≡ s .x u) × (g' u ≡ g u)
-  pub mi : (u : ℕ) → In u → g p < g u → g u < g q → (s' .x u ≡ s .x u + i) × (g' u ≡ g p + 1)
-  pub hi : (u : ℕ) → In u → g q ≤ g u → (s' .x u ≡ s .x u + j) × (g' u + g q ≡ g u + g p + 2)
+pub record Regroup (s s' : Places) (g g' : ℕ → ℕ) (Here : ℕ → Type 0) (p q v i j : ℕ) : Type 0 where
+  pub level : (u : ℕ) → Here u → s' .y u ≡ s .y u
+  pub lo : (u : ℕ) → Here u → g u ≤ g p → (s' .x u ≡ s .x u) × (g' u ≡ g u)
+  pub mi : (u : ℕ) → Here u → g p < g u → g u < g q → (s' .x u ≡ s .x u + i) × (g' u ≡ g p + 1)
+  pub hi : (u : ℕ) → Here u → g q ≤ g u → (s' .x u ≡ s .x u + j) × (g' u + g q ≡ g u + g p + 2)
   pub v-place : g' v ≡ g p + 1
 
-module _ (s s' : Places) (g g' : ℕ → ℕ) (In : ℕ → Type 0) (p q v i j : ℕ) (S : Regroup s s' g g' In p q v i j) where
+module _ (s s' : Places) (g g' : ℕ → ℕ) (Here : ℕ → Type 0) (p q v i j : ℕ) (S : Regroup s s' g g' Here p q v i j) where
   open Places s using (x)
   open Places s' using (x as x')
 
@@ -28,7 +28,7 @@ module _ (s s' : Places) (g g' : ℕ → ℕ) (In : ℕ → Type 0) (p q v i j :
     mi : g p < g u → g u < g q → x' u ≡ x u + i → g' u ≡ g p + 1 → Moved u
     hi : g q ≤ g u → x' u ≡ x u + j → g' u + g q ≡ g u + g p + 2 → Moved u
 
-  pub moved : (u : ℕ) → In u → Moved u
+  pub moved : (u : ℕ) → Here u → Moved u
   moved u h =
       by-le (g u) (g p) (λ k. lo k (S .lo u h k .0) (S .lo u h k .1))
       (λ k. by-le (g q) (g u) (λ l. hi l (S .hi u h l .0) (S .hi u h l .1)) (λ l. mi k l (S .mi u h k l .0) (S .mi u h k l .1)))
@@ -50,7 +50,7 @@ module _ (s s' : Places) (g g' : ℕ → ℕ) (In : ℕ → Type 0) (p q v i j :
     right u (mi a a' b e) = omega arith
     right u (hi a b e) = omega arith
 
-    pub moves : Moves s s' g g' In
+    pub moves : Moves s s' g g' Here
     moves = record { right = λ u h. right u (moved u h); level = S .level; order = λ z u k l. order z u (moved z k) (moved u l) }
 
 -- the contour, along which groups grow
@@ -87,8 +87,11 @@ module _ (g : ℕ → ℕ) (L : List ℕ) (p : ℕ) (M : List ℕ) (q : ℕ) (R 
       go (inr i) = omega (arith, grow q a (chain-from E trans q R after-q a i))
 
   -- the new contour
-  pub renewed : (E' : ℕ → ℕ → Type 0) (v : ℕ) → ((a b : ℕ) → In a (L ++ p ∷ (M ++ q ∷ R)) → In b (L ++ p ∷ (M ++ q ∷ R)) → g a ≤ g p → g b ≤ g p → E a b → E' a b)
-      → ((a b : ℕ) → In a (L ++ p ∷ (M ++ q ∷ R)) → In b (L ++ p ∷ (M ++ q ∷ R)) → g q ≤ g a → g q ≤ g b → E a b → E' a b) → E' p v → E' v q → Chain E' (L ++ p ∷ v ∷ q ∷ R)
+  abbrev On : ℕ → Type 0
+  On a = In a (L ++ p ∷ (M ++ q ∷ R))
+
+  pub renewed : (E' : ℕ → ℕ → Type 0) (v : ℕ) → ((a b : ℕ) → On a → On b → g a ≤ g p → g b ≤ g p → E a b → E' a b)
+      → ((a b : ℕ) → On a → On b → g q ≤ g a → g q ≤ g b → E a b → E' a b) → E' p v → E' v q → Chain E' (L ++ p ∷ v ∷ q ∷ R)
   renewed E' v f h k l =
       chain-join E' p L (v ∷ q ∷ R)
       (chain-in (L ++ p ∷ []) (λ a b i j. f a b (upto-p a i .1) (upto-p b j .1) (upto-p a i .0) (upto-p b j .0)) before-p)

@@ -60,7 +60,8 @@ pub inner-run : (p : ℕ) (M : List ℕ) (q : ℕ) → inner (p ∷ (M ++ q ∷ 
 inner-run p M q = take-at M (q ∷ []) (length (p ∷ (M ++ q ∷ [])) - 2) (omega (arith, length-append M (q ∷ [])))
 
 -- ---- a post of the contour: up to p, inside the run, or from q on
-pub sides : (c : ℕ) (X : List ℕ) (p : ℕ) (M : List ℕ) (q : ℕ) (Y : List ℕ) → In c (X ++ p ∷ (M ++ q ∷ Y)) → In c (X ++ p ∷ []) ⊎ (In c M ⊎ In c (q ∷ Y))
+pub sides : (c : ℕ) (X : List ℕ) (p : ℕ) (M : List ℕ) (q : ℕ) (Y : List ℕ) → In c (X ++ p ∷ (M ++ q ∷ Y))
+    → In c (X ++ p ∷ []) ⊎ (In c M ⊎ In c (q ∷ Y))
 sides c X p M q Y =
     in-append c X (p ∷ (M ++ q ∷ Y)) (λ i. inl (in-left c X (p ∷ []) i))
     (elim [ inl e ↦ inl (in-right c X (p ∷ []) (inl e)) | inr h ↦ in-append c M (q ∷ Y) (λ i. inr (inl i)) (λ i. inr (inr i)) h ])

@@ -45,7 +45,8 @@ pub record OneStep (t t' : Stage) (p q v : ℕ) : Type 0 where
   pub exact-x : 2 * t' .x v + t' .y p ≡ t' .x p + t' .x q + t' .y q
   pub exact-y : 2 * t' .y v + t' .x p ≡ t' .x q + t' .y q + t' .y p
 
-module _ (t : Stage) (X : List ℕ) (p : ℕ) (M : List ℕ) (q : ℕ) (Y : List ℕ) (v : ℕ) {B : Build (X ++ p ∷ (M ++ q ∷ Y))} (D : Drawn t B) (fresh : ¬ (In v (t .placed))) where
+module _ (t : Stage) (X : List ℕ) (p : ℕ) (M : List ℕ) (q : ℕ) (Y : List ℕ) (v : ℕ) {B : Build (X ++ p ∷ (M ++ q ∷ Y))}
+    (D : Drawn t B) (fresh : ¬ (In v (t .placed))) where
   open Drawn D using (g)
 
   abbrev t' : Stage
@@ -184,7 +185,13 @@ module _ (t : Stage) (X : List ℕ) (p : ℕ) (M : List ℕ) (q : ℕ) (Y : List
 
   -- a post of the new contour: v, or one that stays
   on-new : (c : ℕ) → In c (X ++ p ∷ v ∷ q ∷ Y) → (c ≡ v) ⊎ Stays c
-  on-new c i = elim (sides c X p (v ∷ []) q Y i) [ inl k ↦ inr (stays-left c k) | inr (inl (inl e)) ↦ inl e | inr (inl (inr z)) ↦ absurd z | inr (inr k) ↦ inr (stays-right c k) ]
+  on-new c i = go (sides c X p (v ∷ []) q Y i)
+    where
+      go : In c (X ++ p ∷ []) ⊎ (In c (v ∷ []) ⊎ In c (q ∷ Y)) → (c ≡ v) ⊎ Stays c
+      go (inl k) = inr (stays-left c k)
+      go (inr (inl (inl e))) = inl e
+      go (inr (inl (inr z))) = absurd z
+      go (inr (inr k)) = inr (stays-right c k)
 
   same-place : (u c : ℕ) → Post B u → Post B c → g u ≡ g c → g' u ≡ g' c
   same-place u c h k e = cc (g-old u h, g-old c k)
@@ -232,7 +239,8 @@ module _ (t : Stage) (X : List ℕ) (p : ℕ) (M : List ℕ) (q : ℕ) (Y : List
   headed' u (inl e) = (v, in-right v X (p ∷ v ∷ q ∷ Y) (inr (inl refl)), ap g' e)
   headed' u (inr h) = let r = D .headed u h in go (r .0) (r .1) (r .2) (sides (r .0) X p M q Y (r .1))
     where
-      go : (c : ℕ) → In c (X ++ p ∷ (M ++ q ∷ Y)) → g u ≡ g c → In c (X ++ p ∷ []) ⊎ (In c M ⊎ In c (q ∷ Y)) → (c : ℕ) × In c (X ++ p ∷ v ∷ q ∷ Y) × (g' u ≡ g' c)
+      go : (c : ℕ) → In c (X ++ p ∷ (M ++ q ∷ Y)) → g u ≡ g c → In c (X ++ p ∷ []) ⊎ (In c M ⊎ In c (q ∷ Y))
+          → (c : ℕ) × In c (X ++ p ∷ v ∷ q ∷ Y) × (g' u ≡ g' c)
       go c i e (inl k) = (
         c,
         subst (In c) (append-assoc X (p ∷ []) (v ∷ q ∷ Y)) (in-left c (X ++ p ∷ []) (v ∷ q ∷ Y) k),
@@ -256,8 +264,8 @@ module _ (t : Stage) (X : List ℕ) (p : ℕ) (M : List ℕ) (q : ℕ) (Y : List
   drawn =
       record {
         contour = contour';
-        posts = λ u h. subst⁻¹ (In u) placed' (elim h [ inl e ↦ in-right u (t .placed) (v ∷ []) (inl e) | inr k ↦ in-left u (t .placed) (v ∷ []) (D .posts u k) ]);
-        placed = λ u h. in-append u (t .placed) (v ∷ []) (λ k. inr (D .placed u k)) (elim [ inl e ↦ inl e | inr z ↦ absurd z ]) (subst (In u) placed' h);
+        posts = posts;
+        placed = λ u h. in-append u (t .placed) (v ∷ []) (λ k. inr (D .placed u k)) (elim [ inl e ↦ inl e | inr z ↦ absurd z ]) (rw placed' at h);
         width = D .width + 2;
         wide = omega (arith, D .wide, ap length placed', length-append (t .placed) (v ∷ []));
         g = g';
@@ -266,6 +274,10 @@ module _ (t : Stage) (X : List ℕ) (p : ℕ) (M : List ℕ) (q : ℕ) (Y : List
         in-group = in-group';
         grouped = grouped';
       }
+    where
+      posts : (u : ℕ) → (u ≡ v) ⊎ Post B u → In u (t' .placed)
+      posts u (inl e) = rw placed' (in-right u (t .placed) (v ∷ []) (inl e))
+      posts u (inr k) = rw placed' (in-left u (t .placed) (v ∷ []) (D .posts u k))
 
   -- the step, and what it does
   pub step : Drawn (placeOver t (p ∷ (M ++ q ∷ [])) v) (post X p M q Y v B)

@@ -105,7 +105,11 @@ module _ (t : Stage) (X : List ℕ) (p : ℕ) (M : List ℕ) (q : ℕ) (Y : List
   by = shift (flatMap (t .group) M) (flatMap (t .group) (q ∷ Y))
 
   pub by-0 : (u : ℕ) → g u ≤ g p → by u ≡ 0
-  by-0 u h = rw (not-mem (flatMap (t .group) M) u (λ i. omega (arith, in-ones u i)), not-mem (flatMap (t .group) (q ∷ Y)) u (λ i. omega (arith, in-twos u i, ends .ord)))
+  by-0 u h =
+      rw (
+        not-mem (flatMap (t .group) M) u (λ i. omega (arith, in-ones u i)),
+        not-mem (flatMap (t .group) (q ∷ Y)) u (λ i. omega (arith, in-twos u i, ends .ord)),
+      )
 
   pub by-1 : (u : ℕ) → Post B u → g p < g u → g u < g q → by u ≡ 1
   by-1 u h a b = rw (in-mem (flatMap (t .group) M) u (ones u h a b), not-mem (flatMap (t .group) (q ∷ Y)) u (λ i. omega (arith, in-twos u i)))

@@ -50,21 +50,19 @@ module _ (s s' : Places) (g g' : ℕ → ℕ) where
   open Places s using (x, y)
   open Places s' using (x as x', y as y')
 
-  pub record Moves (In : ℕ → Type 0) : Type 0 where
-    pub right : (u : ℕ) → In u → x u ≤ x' u
-    pub level : (u : ℕ) → In u → y' u ≡ y u
-    pub order : (u w : ℕ) → In u → In w → g u ≤ g w → (x' u + x w ≤ x' w + x u) × (g' u ≤ g' w)
+  pub record Moves (Here : ℕ → Type 0) : Type 0 where
+    pub right : (u : ℕ) → Here u → x u ≤ x' u
+    pub level : (u : ℕ) → Here u → y' u ≡ y u
+    pub order : (u w : ℕ) → Here u → Here w → g u ≤ g w → (x' u + x w ≤ x' w + x u) × (g' u ≤ g' w)
 
-  module _ {In : ℕ → Type 0} (m : Moves In) where
-    left-kept : (a b : ℕ) → In a → In b → Left s g a b → Left s' g' a b
+  module _ {Here : ℕ → Type 0} (m : Moves Here) where
+    left-kept : (a b : ℕ) → Here a → Here b → Left s g a b → Left s' g' a b
     left-kept a b ia ib l =
         let o = m .order a b ia ib (l .ord) in
-        record {
-          before = record { le = omega (arith, o, l .before .le); tie = λ h. omega (arith, o, l .before .tie (omega (arith, o)), m .level a ia, m .level b ib) };
-          ord = o .1;
-        }
+        let tie : x' b ≤ x' a → y' a < y' b = λ h. omega (arith, o, l .before .tie (omega (arith, o)), m .level a ia, m .level b ib) in
+        record { before = record { le = omega (arith, o, l .before .le); tie = tie }; ord = o .1 }
 
-    held-kept : (v a b : ℕ) → In v → In a → In b → Held s g v a b → Held s' g' v a b
+    held-kept : (v a b : ℕ) → Here v → Here a → Here b → Held s g v a b → Held s' g' v a b
     held-kept v a b iv ia ib h =
         let o = m .order a v ia iv (h .from) in
         let r = m .order v b iv ib (h .to) in

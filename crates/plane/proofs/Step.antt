@@ -1,4 +1,4 @@
--- The first method: a stage, and the step with shifts by 0, 1 and 2.
+-- The shift method: what each stage keeps, and the step, with shifts by 0, 1 and 2.
 use Prim.Native.Nat.{ℕ, zero, suc, _+_, _*_, _-_, _≤_, _<_, _%_}
 use mathlib.Core.Path.{_≡_, refl, ap}
 use mathlib.Core.Logic.{_⊎_, inl, inr}
@@ -23,6 +23,7 @@ pub record Later (s : Places) (g : ℕ → ℕ) (a b : ℕ) : Type 0 where
 pub later-trans : (s : Places) (g : ℕ → ℕ) (a b c : ℕ) → Later s g a b → Later s g b c → Later s g a c
 later-trans s g a b c h k = omega arith
 
+-- what each stage keeps: the triangles, a contour that rises, the grid, and x + y even on the contour
 pub record Laid (s : Places) (g : ℕ → ℕ) (width : ℕ) {C : List ℕ} (B : Build C) : Type 0 where
   pub kept : Kept s g B
   pub rise : Chain (Later s g) C
@@ -30,8 +31,8 @@ pub record Laid (s : Places) (g : ℕ → ℕ) (width : ℕ) {C : List ℕ} (B :
   pub even : (u : ℕ) → In u C → (s .x u + s .y u) % 2 ≡ 0
 
 -- shifts by 1 and 2; v is where the diagonals from p and q meet
-pub record Step (s s' : Places) (g g' : ℕ → ℕ) (In : ℕ → Type 0) (p q v : ℕ) : Type 0 where
-  pub shift : Regroup s s' g g' In p q v 1 2
+pub record Step (s s' : Places) (g g' : ℕ → ℕ) (Here : ℕ → Type 0) (p q v : ℕ) : Type 0 where
+  pub shift : Regroup s s' g g' Here p q v 1 2
   pub v-sum : s' .x v + s' .y v ≡ s' .x q + s' .y q
   pub v-dif : s' .x v + s' .y p ≡ s' .x p + s' .y v
 
@@ -148,7 +149,8 @@ module _ (s s' : Places) (g g' : ℕ → ℕ) (width : ℕ) (L : List ℕ) (p : 
       let δ : ℕ = x' a + y' v - (x' v + y' a) in
       record {
         turn =
-            peak (x' a) (y' a) (x' b) (y' b) (x' v) (y' v) α β γ δ (omega (arith, t .sum)) (omega (arith, t .dif)) (omega (arith, t .above-a, S .v-sum)) (omega (arith, t .below-a, S .v-dif))
+            peak (x' a) (y' a) (x' b) (y' b) (x' v) (y' v) α β γ δ
+            (omega (arith, t .sum)) (omega (arith, t .dif)) (omega (arith, t .above-a, S .v-sum)) (omega (arith, t .below-a, S .v-dif))
             (positive α β γ δ (omega (arith, t .above-a, S .v-sum)) (omega (arith, t .dif, t .below-a, t .below-b, S .v-dif)) (omega (arith, t .far)));
         from = t .from;
         to = t .to;
@@ -189,10 +191,16 @@ module _ (s s' : Places) (g g' : ℕ → ℕ) (width : ℕ) (L : List ℕ) (p : 
   even' u = in-append u L (p ∷ v ∷ q ∷ R) (λ i. low u (in-left u L (p ∷ []) i)) go
     where
       low : (a : ℕ) → In a (L ++ p ∷ []) → (x' a + y' a) % 2 ≡ 0
-      low a i = let t = upto-p g L p M q R E trans grow (G .rise) a i in let h = on-contour B a (t .1) in omega (arith, G .even a (t .1), shift .lo a h (t .0), shift .level a h)
+      low a i =
+          let t = upto-p g L p M q R E trans grow (G .rise) a i in
+          let h = on-contour B a (t .1) in
+          omega (arith, G .even a (t .1), shift .lo a h (t .0), shift .level a h)
 
       high : (a : ℕ) → In a (q ∷ R) → (x' a + y' a) % 2 ≡ 0
-      high a i = let t = onto-q g L p M q R E trans grow (G .rise) a i in let h = on-contour B a (t .1) in omega (arith, G .even a (t .1), shift .hi a h (t .0), shift .level a h)
+      high a i =
+          let t = onto-q g L p M q R E trans grow (G .rise) a i in
+          let h = on-contour B a (t .1) in
+          omega (arith, G .even a (t .1), shift .hi a h (t .0), shift .level a h)
 
       go : In u (p ∷ v ∷ q ∷ R) → (x' u + y' u) % 2 ≡ 0
       go (inl e) = low u (in-right u L (p ∷ []) (inl e))
@@ -200,4 +208,6 @@ module _ (s s' : Places) (g g' : ℕ → ℕ) (width : ℕ) (L : List ℕ) (p : 
       go (inr (inr i)) = high u i
 
   pub laid : Laid s' g' (width + 2) (post L p M q R v B)
-  laid = record { kept = (holds, kept s s' g g' B (moves s s' g g' (Post B) p q v 1 2 shift (pq .ord) (omega arith)) (G .kept)); rise = rise'; bounds = bounds'; even = even' }
+  laid =
+      let m = moves s s' g g' (Post B) p q v 1 2 shift (pq .ord) (omega arith) in
+      record { kept = (holds, kept s s' g g' B m (G .kept)); rise = rise'; bounds = bounds'; even = even' }
