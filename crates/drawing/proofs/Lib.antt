@@ -1,0 +1,9 @@
+pub mod Numbers
+pub mod Lists
+pub mod Fan
+pub mod Points
+pub mod Roof
+pub mod Keep
+pub mod Insert
+pub mod Build
+pub mod Static

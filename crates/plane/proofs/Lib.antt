@@ -1,0 +1,10 @@
+pub mod Lists
+pub mod Turns
+pub mod Shift
+pub mod Group
+pub mod Step
+pub mod Drawn
+pub mod Over
+pub mod Next
+pub mod Start
+pub mod Sheet

@@ -1,0 +1,1 @@
+// The shift method keeps its triangles: laws, no running code.
