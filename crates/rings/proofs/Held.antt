@@ -11,7 +11,7 @@ use lib.Seq.{slice}
 use borrow.Author.Tests.{lt-ltb, le-ltb, eq-eqb, ne-eqb, not-true, not-false}
 use Rattle.words.specs.Lists.{mem, count, allOf}
 use Rattle.rings.specs.Rings.{ring, around, next, allNext, follows, entryRule, ringRule, triangleRule, outerRule}
-use Rattle.rings.proofs.Around.{all-step, all-end, around-start, all-next-turn, all-next-done}
+use Rattle.rings.proofs.Turns.{all-step, all-end, around-start, all-next-turn, all-next-done}
 use Rattle.rings.specs.Held.{held}
 
 pub held-length : (at ents : List ℕ) → length (held at ents) ≡ length at - 1

@@ -1,3 +1,3 @@
 pub mod OnBoards
-pub mod Around
+pub mod Turns
 pub mod Held

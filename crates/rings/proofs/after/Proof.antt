@@ -4,7 +4,7 @@ use Rattle.rings.proofs.after.Tie as tie
 use Rattle.rings.proofs.after.Reads as reads
 use Rattle.rings.proofs.after.Lts as lts
 use native.Mathlib.Omega.{arith}
-use Rattle.rings.proofs.Around.{around-after, around-first}
+use Rattle.rings.proofs.Turns.{around-after, around-first}
 
 -- src/lib.rt:96:8
 add-if1 : tie.Need-add-if1

@@ -7,7 +7,7 @@ use Rattle.rings.proofs.after.Reads as after-reads
 use Rattle.rings.proofs.is_after.Reads as is-after-reads
 use native.Mathlib.Omega.{arith}
 use mathlib.Core.Path.{_≡_, refl, sym, ap, _∙_}
-use Rattle.rings.proofs.Around.{around-here}
+use Rattle.rings.proofs.Turns.{around-here}
 
 -- src/lib.rt:145:24
 mul-is-after : tie.Need-mul-is-after

@@ -10,7 +10,7 @@ use mathlib.Core.Bool.{Bool, true, false, _||_}
 use lib.ListN.{length, getD, drop}
 use lib.Seq.{slice, length-slice}
 use Rattle.rings.specs.Rings.{around, next}
-use Rattle.rings.proofs.Around.{around-start, next-turn, next-done}
+use Rattle.rings.proofs.Turns.{around-start, next-turn, next-done}
 use borrow.Author.Needs.{needs}
 
 abbrev Inv-loop : tie.InvT-loop

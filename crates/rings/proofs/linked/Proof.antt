@@ -9,7 +9,7 @@ use mathlib.Core.Path.{refl, sym, _∙_}
 use mathlib.Core.Bool.{Bool, true, false, _&&_}
 use lib.Dec.{eqb}
 use borrow.Author.Tests.{eq-eqb, ne-eqb}
-use Rattle.rings.proofs.Around.{here-not, here-is}
+use Rattle.rings.proofs.Turns.{here-not, here-is}
 
 -- src/lib.rt:107:8
 mul-if1 : tie.Need-mul-if1

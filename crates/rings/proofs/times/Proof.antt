@@ -10,7 +10,7 @@ use lib.Dec.{eqb}
 use lib.ListN.{length, getD}
 use lib.Seq.{slice}
 use Rattle.words.specs.Lists.{count}
-use Rattle.rings.proofs.Around.{count-step, count-end}
+use Rattle.rings.proofs.Turns.{count-step, count-end}
 use borrow.Author.Needs.{needs}
 
 abbrev Inv-loop : tie.InvT-loop
