@@ -1,1 +1,4 @@
 pub mod First
+pub mod Lists
+pub mod Tests
+pub mod Positions
