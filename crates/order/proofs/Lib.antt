@@ -1,1 +1,3 @@
 pub mod OnBoards
+pub mod Contour
+pub mod Tests
