@@ -1,3 +1,4 @@
 pub mod OnBoards
 pub mod Contour
 pub mod Tests
+pub mod Runs
