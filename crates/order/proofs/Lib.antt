@@ -2,3 +2,4 @@ pub mod OnBoards
 pub mod Contour
 pub mod Tests
 pub mod Runs
+pub mod Starts

@@ -1,3 +1,4 @@
 pub mod OnBoards
 pub mod Around
+pub mod Places
 pub mod Says
