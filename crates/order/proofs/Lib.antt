@@ -3,3 +3,4 @@ pub mod Contour
 pub mod Tests
 pub mod Runs
 pub mod Starts
+pub mod Sound
