@@ -3,4 +3,5 @@ pub mod Contour
 pub mod Tests
 pub mod Runs
 pub mod Starts
+pub mod Growth
 pub mod Sound

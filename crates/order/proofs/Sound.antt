@@ -9,13 +9,13 @@ use native.Mathlib.Omega.{arith}
 use native.Mathlib.Decide.{ℕ-discrete, decLt}
 use lib.Dec.{T, ltb, leb}
 use lib.ListN.{length, getD, take, drop, List·getD-map}
-use lib.Seq.{take-suc}
+use lib.Seq.{take-suc, take-length}
 use borrow.Author.Tests.{leb-false, lt-leb, le-ltb}
 use Rattle.words.specs.Numbers.{sumOf}
 use Rattle.words.specs.Lists.{In, Different, mem}
 use Rattle.words.specs.Positions.{post, earlier, later, Earlier}
 use Rattle.words.proofs.Lists.{Once, in-left, in-right, in-cases, all-there, once-length}
-use Rattle.words.proofs.Tests.{holds, is-true, is-false, fails, mem-in, in-mem, place-in, in-place, different-once}
+use Rattle.words.proofs.Tests.{holds, is-true, is-false, fails, mem-in, in-mem, place-in, in-place, different-once, once-different}
 use Rattle.words.proofs.Positions.{in-take, take-in, post-suc, earlier-in, post-new}
 use Rattle.block.specs.Block.{badEntry, badDegree}
 use Rattle.rings.specs.Rings.{ring, around, ringRule, triangleRule, outerRule}
@@ -26,6 +26,7 @@ use Rattle.rings.proofs.Says.{RingKept, Faces, ring-says, says-ring, triangle-s
 use Rattle.order.specs.Order.{twoPlaced, oneRun, oneLater}
 use Rattle.order.specs.Canonical.{Two, OneRun, Canonical}
 use Rattle.order.proofs.Tests.{two-says, says-two, run-says, says-run, later-says, says-later}
+use Rattle.order.proofs.Growth.{Names}
 
 -- the tests of steps 7 to 14, each passed
 pub record Passes (G : List (List ℕ)) (vs : List ℕ) : Type 0 where
@@ -132,26 +133,39 @@ module _ (G : List (List ℕ)) (vs : List ℕ) (F : Faces G) (bottom : In (post 
 
 -- ---- the theorem
 module _ (G : List (List ℕ)) (vs : List ℕ) where
+  -- what the tests of steps 7, 9, 10 and 11 say
+  pub tested-names : length vs ≡ length G → ((k : ℕ) → 1 ≤ k → k ≤ length G → badEntry (length G) vs k ≡ false) → Names (length G) vs
+  tested-names n good =
+      let now : (k : ℕ) → 1 ≤ k → k ≤ length vs → badEntry (length G) vs k ≡ false = λ k a b. good k a (omega arith) in
+      record { all = n; below = order-below (length G) vs now; once = different-once vs (order-once (length G) vs now) }
+
+  pub passes-names : Passes G vs → Names (length G) vs
+  passes-names P = tested-names (P .all) (P .entries)
+
+  pub passes-faces : Passes G vs → Faces G
+  passes-faces P = faces-tested G (P .rings) (P .triangles)
+
+  pub passes-outer : Passes G vs → After G (post vs 2) (post vs 1) (post vs (length G))
+  passes-outer P = follows-after G (post vs 2) (post vs 1) (post vs (length G)) (outer-says G (post vs 1) (post vs 2) (post vs (length G)) (P .outer) .1)
+
   pub passes-canonical : Passes G vs → Canonical G vs
   passes-canonical P =
+      let N = passes-names P in
       let n : length vs ≡ length G = P .all in
-      let F = faces-tested G (P .rings) (P .triangles) in
-      let good : (k : ℕ) → 1 ≤ k → k ≤ length vs → badEntry (length G) vs k ≡ false = λ k a b. P .entries k a (omega arith) in
-      let below = order-below (length G) vs good in
       record {
         all = n;
-        below = below;
-        once = order-once (length G) vs good;
-        two = λ k a b. two-says G vs k (post vs k) (ring-once G F (post vs k) (entry-says (length G) vs k (good k (omega arith) b) .0)) (P .two k a (omega arith));
+        below = N .below;
+        once = once-different vs (N .once);
+        two = λ k a b. two-says G vs k (post vs k) (ring-once G (passes-faces P) (post vs k) (N .below (post vs k) (place-in vs (k - 1) (omega arith)))) (P .two k a (omega arith));
         run = λ k a b. run-says G vs k (post vs k) (omega arith) (P .run k a (omega arith));
         later = λ k a b. later-says G vs k (post vs k) (P .later k a (omega arith));
       }
 
   pub passes-plane : Passes G vs → Plane G (post vs 1) (post vs 2) (post vs (length G))
   passes-plane P =
-      let F = faces-tested G (P .rings) (P .triangles) in
+      let F = passes-faces P in
+      let N = passes-names P in
       let o = outer-says G (post vs 1) (post vs 2) (post vs (length G)) (P .outer) in
-      let C = passes-canonical P in
       let n : length vs ≡ length G = P .all in
       record {
         below = λ u v h. F .kept u h .below v;
@@ -160,8 +174,8 @@ module _ (G : List (List ℕ)) (vs : List ℕ) where
         returned = λ u v h. F .kept u h .returned v;
         triangle = λ u v w h. triangle-says G u (P .triangles u h) v w;
         connected = λ u h.
-            let i = in-place vs u (all-there (length G) vs (different-once vs (C .once)) (C .below) (omega arith) u h) in
-            reached-to G vs F (o .0) (C .two) (length vs) (omega arith) u (rw (← (i .2)) (take-in (length vs) vs (i .0) (i .1) (i .1)));
+            let i = all-there (length G) vs (N .once) (N .below) (omega arith) u h in
+            reached-to G vs F (o .0) (passes-canonical P .two) (length vs) (omega arith) u (rw take-length i);
         entries = P .total;
         bottom = o .0;
         outer = o .1;
