@@ -1,1 +1,2 @@
 pub mod OnBoards
+pub mod Steps
