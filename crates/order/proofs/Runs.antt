@@ -20,7 +20,7 @@ use Rattle.rings.proofs.Around.{After, around-one, around-in, around-next, arou
 use Rattle.rings.proofs.Says.{Faces, entry-other, ring-once, name, follows-name}
 use Rattle.order.specs.Order.{twoPlaced, from, lead, rest, leads, oneRun, begins, run}
 use Rattle.order.proofs.Contour.{Rings, Run, Contour, cut, never-14}
-use Rattle.order.proofs.Tests.{lead-rest, lead-placed, rest-nil, leads-says, says-leads, from-in, from-out, from-at}
+use Rattle.order.proofs.Tests.{lead-rest, lead-placed, rest-nil, leads-says, says-leads, from-out, from-at, begins-says, says-begins}
 
 -- rings and triangles, as the contour's laws want them
 pub rings : (G : List (List ℕ)) → Faces G → Rings (After G)
@@ -132,10 +132,6 @@ module _ (G : List (List ℕ)) (F : Faces G) (v1 v2 vn : ℕ) (outer : After G v
     all-placed : T (allOf (mem placed) (ring G v)) → (a : ℕ) → In a (ring G v) → In a placed
     all-placed t a h = mem-in placed a (all-says (mem placed) (ring G v) t a h)
 
-    says-begins : (s : ℕ) → T (leads placed (from s (ring G v))) → T (not (allOf (mem placed) (ring G v)) || eqb (getD (ring G v) s 0) (post placed 1)) → T (begins G placed v s)
-    unfolding begins
-    says-begins s h i = join (leads placed (from s (ring G v))) _ h i
-
     -- from some place on the ring begins with the run
     at-v1 : T (allOf (mem placed) (ring G v)) → (s : ℕ) × (s < length (ring G v)) × T (begins G placed v s)
     at-v1 t = go (cut-at v1 (ring G v) (rw (whole (all-placed t)) v1-in))
@@ -149,7 +145,7 @@ module _ (G : List (List ℕ)) (F : Faces G) (v1 v2 vn : ℕ) (outer : After G v
             let g : getD (ring G v) (length X) 0 ≡ v1 = ap (λ (r : List ℕ). getD r (length X) 0) (c .2) ∙ getD-at X v1 Z 0 (length X) refl in (
               length X,
               omega (arith, ap length (c .2), length-append X (v1 ∷ Z)),
-              says-begins (length X) (rw e l) (or-right (not (allOf (mem placed) (ring G v))) _ (rw (g, head) (eqb-refl v1))),
+              says-begins G placed v (length X) (rw e l) (or-right (not (allOf (mem placed) (ring G v))) _ (rw (g, head) (eqb-refl v1))),
             )
 
     place : (s : ℕ) × (s < length (ring G v)) × T (begins G placed v s)
@@ -160,7 +156,7 @@ module _ (G : List (List ℕ)) (F : Faces G) (v1 v2 vn : ℕ) (outer : After G v
         go true e = at-v1 (holds _ e)
         go false e =
             let t = some-found (λ s. leads placed (from s (ring G v))) 0 (length (ring G v)) one in
-            (t .0, omega (arith, t .2), says-begins (t .0) (holds _ (t .3)) (or-left (not (allOf (mem placed) (ring G v))) _ (rw e tt)))
+            (t .0, omega (arith, t .2), says-begins G placed v (t .0) (holds _ (t .3)) (or-left (not (allOf (mem placed) (ring G v))) _ (rw e tt)))
 
     -- the run does not pass from v2 to v1
     no-turn-at : (s : ℕ) → s < length (ring G v) → T (not (allOf (mem placed) (ring G v)) || eqb (getD (ring G v) s 0) (post placed 1))
@@ -200,9 +196,9 @@ module _ (G : List (List ℕ)) (F : Faces G) (v1 v2 vn : ℕ) (outer : After G v
 
     begins-run : (s : ℕ) → s < length (ring G v) → T (begins G placed v s)
         → (p : ℕ) × (M : List ℕ) × (q : ℕ) × (lead placed (from s (ring G v)) ≡ p ∷ (M ++ q ∷ [])) × Run (After G) placed v p M q × ¬ (Adj (p ∷ (M ++ q ∷ [])) v2 v1)
-    unfolding begins twoPlaced from
+    unfolding twoPlaced from
     begins-run s h t =
-        let b = both (leads placed (from s (ring G v))) _ t in
+        let b = begins-says G placed v s t in
         let r = run-at G placed v (take s (ring G v)) (drop s (ring G v)) (take-append-drop s (ring G v)) (leb→le 2 _ (holds _ two)) (b .0) in
         (r .0, r .1, r .2, r .3, r .4, no-turn-at s h (b .1) (r .0) (r .1) (r .2) (r .3) (r .4))
 

@@ -5,18 +5,18 @@ use mathlib.Core.Bool.{Bool, true, false, not, cond, _&&_, _||_}
 use mathlib.Core.List.{List, [], _∷_, _++_, append-assoc, append-nil}
 use Prim.Native.Nat.{ℕ, zero, suc, _+_, _≤_, _<_}
 use native.Mathlib.Omega.{arith}
-use lib.Dec.{T, leb, leb→le, le→leb, T-not, not-T}
+use lib.Dec.{T, leb, eqb, leb→le, le→leb, T-not, not-T}
 use lib.ListN.{length, getD, take, drop, length-append, take-append-drop}
 use lib.Seq.{take-at, drop-at}
 use Rattle.words.specs.First.{first, some}
-use Rattle.words.specs.Lists.{In, mem, anyOf, count}
-use Rattle.words.specs.Positions.{earlier, later, Earlier, Later}
+use Rattle.words.specs.Lists.{In, mem, allOf, anyOf, count}
+use Rattle.words.specs.Positions.{post, earlier, later, Earlier, Later}
 use Rattle.words.proofs.First.{some-true, some-found}
 use Rattle.words.proofs.Lists.{Once, in-left, in-right, in-cases, in-turn}
-use Rattle.words.proofs.Tests.{holds, is-true, mem-in, in-mem, any-says, says-any, none-says, says-none, count-found, count-two, two-count}
+use Rattle.words.proofs.Tests.{holds, is-true, both, join, mem-in, in-mem, any-says, says-any, none-says, says-none, count-found, count-two, two-count}
 use Rattle.words.proofs.Positions.{earlier-in, in-earlier, later-in, in-later}
 use Rattle.rings.specs.Rings.{ring}
-use Rattle.order.specs.Order.{twoPlaced, from, lead, rest, leads, oneRun, oneLater}
+use Rattle.order.specs.Order.{twoPlaced, from, lead, rest, leads, oneRun, oneLater, begins}
 use Rattle.order.specs.Canonical.{Two, OneRun}
 
 -- ---- a list's first entries as far as they are placed, and the rest
@@ -53,6 +53,9 @@ module _ (placed : List ℕ) where
   unfolding rest
   rest-nil l h = ap (rest placed) (sym (append-nil l)) ∙ rest-after l [] h
 
+  pub lead-all : (l : List ℕ) → ((a : ℕ) → In a l → In a placed) → lead placed l ≡ l
+  lead-all l h = sym (append-nil (lead placed l)) ∙ ap (λ (r : List ℕ). lead placed l ++ r) (sym (rest-nil l h)) ∙ lead-rest l
+
   -- the placed entries lead: of the rest none is placed
   pub leads-says : (l : List ℕ) → T (leads placed l) → (a : ℕ) → In a (rest placed l) → ¬ (In a placed)
   unfolding leads
@@ -79,6 +82,16 @@ from-at X Y = rw (drop-at X Y (length X) refl, take-at X Y (length X) refl)
 pub from-start : (l : List ℕ) → from 0 l ≡ l
 unfolding from
 from-start l = append-nil l
+
+-- where the run begins: the placed entries lead, and where the whole ring is placed, v1 does
+module _ (G : List (List ℕ)) (placed : List ℕ) (v s : ℕ) where
+  pub begins-says : T (begins G placed v s) → T (leads placed (from s (ring G v))) × T (not (allOf (mem placed) (ring G v)) || eqb (getD (ring G v) s 0) (post placed 1))
+  unfolding begins
+  begins-says t = both (leads placed (from s (ring G v))) _ t
+
+  pub says-begins : T (leads placed (from s (ring G v))) → T (not (allOf (mem placed) (ring G v)) || eqb (getD (ring G v) s 0) (post placed 1)) → T (begins G placed v s)
+  unfolding begins
+  says-begins h i = join (leads placed (from s (ring G v))) _ h i
 
 module _ (G : List (List ℕ)) (vs : List ℕ) (k v : ℕ) where
   -- ---- two earlier neighbours

@@ -133,6 +133,11 @@ module _ (p : ℕ → Bool) where
   count-none [] h = refl
   count-none (x ∷ l) h = count-not x l (h x (inl refl)) ∙ count-none l (λ a i. h a (inr i))
 
+  pub count-all : (l : List ℕ) → ((a : ℕ) → In a l → T (p a)) → count p l ≡ length l
+  unfolding count
+  count-all [] h = refl
+  count-all (x ∷ l) h = count-here x l (h x (inl refl)) ∙ ap suc (count-all l (λ a i. h a (inr i)))
+
   pub count-some : (l : List ℕ) (a : ℕ) → In a l → T (p a) → 1 ≤ count p l
   count-some [] a h t = absurd h
   count-some (x ∷ l) a (inl e) t = let c = count-here x l (rw e at t) in omega arith
