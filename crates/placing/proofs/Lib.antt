@@ -1,1 +1,3 @@
 pub mod OnBoards
+pub mod Steps
+pub mod Placed

@@ -1,3 +1,6 @@
 pub mod OnBoards
 pub mod Turns
 pub mod Held
+pub mod Around
+pub mod Places
+pub mod Says

@@ -103,3 +103,11 @@ module _ (p : ℕ → Bool) where
       go : Dec (first i k p < i + k) → i + k ≤ first i k p
       go (yes h) = absurd (true≢false (sym (first-is k i .there h) ∙ f (first i k p) (first-is k i .from) h))
       go (no n) = omega arith
+
+  -- the first passes the test, if some number of them does
+  pub first-found : (i k j : ℕ) → i ≤ j → j < i + k → p j ≡ true → (first i k p < i + k) × (p (first i k p) ≡ true)
+  first-found i k j a b t = go (decLt (first i k p) (i + k))
+    where
+      go : Dec (first i k p < i + k) → (first i k p < i + k) × (p (first i k p) ≡ true)
+      go (yes h) = (h, first-is k i .there h)
+      go (no n) = absurd (true≢false (sym t ∙ first-is k i .before j a (omega (arith, first-is k i .to))))

@@ -1,3 +1,6 @@
 pub mod First
 pub mod Numbers
 pub mod Stores
+pub mod Lists
+pub mod Tests
+pub mod Positions

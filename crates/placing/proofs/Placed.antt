@@ -1,0 +1,78 @@
+-- What placing v does at a step: its run is p ∷ (M ++ q ∷ []), and the contour X ++ p ∷ (M ++ q ∷ Y) becomes X ++ p ∷ v ∷ q ∷ Y.
+use mathlib.Core.Path.{_≡_, refl, sym, ap, _∙_, subst}
+use mathlib.Core.Logic.{_⊎_, inl, inr}
+use mathlib.Core.Bool.{Bool, true, false, cond}
+use mathlib.Core.List.{List, [], _∷_, _++_, flatMap}
+use Prim.Native.Nat.{ℕ, _+_, _-_, _/_}
+use lib.Dec.{eqb}
+use Rattle.words.specs.Lists.{In, mem, lastOf}
+use Rattle.words.specs.Positions.{post}
+use Rattle.words.proofs.Lists.{Once, in-right, last-append}
+use Rattle.words.proofs.Tests.{eqb-same, eqb-other}
+use Rattle.order.specs.Order.{run}
+use Rattle.placing.specs.Stages.{Stage, onFrom, inner, placeOver, place}
+use Rattle.placing.proofs.Steps.{Step, on-from-run, inner-run}
+
+-- how far a post moves, with M covered and R from w_q on: 1 in the groups of M, 2 in those of R
+abbrev pub shift : Stage → List ℕ → List ℕ → ℕ → ℕ
+shift t M R u = cond (mem (flatMap (t .group) M) u) 1 0 + cond (mem (flatMap (t .group) R) u) 2 0
+
+module _ (G : List (List ℕ)) (t : Stage) (v : ℕ) (s : Step G t v) where
+  first-is : post (run G (t .placed) v) 1 ≡ s .p
+  first-is = rw (s .run-is)
+
+  last-is : lastOf 0 (run G (t .placed) v) ≡ s .q
+  last-is = rw (s .run-is) (last-append (s .p) (s .M) (s .q) [])
+
+  inner-is : inner (run G (t .placed) v) ≡ s .M
+  inner-is = ap inner (s .run-is) ∙ inner-run (s .p) (s .M) (s .q)
+
+  right-is : onFrom (lastOf 0 (run G (t .placed) v)) (t .contour) ≡ s .q ∷ s .Y
+  right-is = ap (λ (q : ℕ). onFrom q (t .contour)) last-is ∙ ap (onFrom (s .q)) (s .before) ∙ on-from-run (s .X) (s .p) (s .M) (s .q) (s .Y) (subst Once (s .before) (s .once))
+
+  pub place-group : (u : ℕ) → place G t v .group u ≡ cond (eqb u v) (v ∷ flatMap (t .group) (s .M)) (t .group u)
+  unfolding place placeOver
+  place-group u = ap (λ (l : List ℕ). cond (eqb u v) (v ∷ flatMap (t .group) l) (t .group u)) inner-is
+
+  pub place-cover : (u : ℕ) → place G t v .cover u ≡ cond (mem (s .M) u) v (t .cover u)
+  unfolding place placeOver
+  place-cover u = ap (λ (l : List ℕ). cond (mem l u) v (t .cover u)) inner-is
+
+  -- where the posts stand now
+  pub place-x-old : (u : ℕ) → ¬ (u ≡ v) → place G t v .x u ≡ t .x u + shift t (s .M) (s .q ∷ s .Y) u
+  unfolding place placeOver
+  place-x-old u n = rw (eqb-other u v n, inner-is, right-is)
+
+  pub place-y-old : (u : ℕ) → ¬ (u ≡ v) → place G t v .y u ≡ t .y u
+  unfolding place placeOver
+  place-y-old u n = rw (eqb-other u v n)
+
+  -- the ends of the run are old posts
+  pub p-placed : In (s .p) (t .placed)
+  p-placed = s .on-placed (s .p) (rw (s .before) (in-right (s .p) (s .X) _ (inl refl)))
+
+  pub q-placed : In (s .q) (t .placed)
+  q-placed = s .on-placed (s .q) (rw (s .before) (in-right (s .q) (s .X) _ (inr (in-right (s .q) (s .M) _ (inl refl)))))
+
+  pub p-old : ¬ (s .p ≡ v)
+  p-old e = s .new (rw e at p-placed)
+
+  pub q-old : ¬ (s .q ≡ v)
+  q-old e = s .new (rw e at q-placed)
+
+  x-new : place G t v .x v
+      ≡ (t .x (s .p) + shift t (s .M) (s .q ∷ s .Y) (s .p) + (t .x (s .q) + shift t (s .M) (s .q ∷ s .Y) (s .q)) + t .y (s .q) - t .y (s .p)) / 2
+  unfolding place placeOver
+  x-new = rw (eqb-same v, inner-is, right-is, first-is, last-is)
+
+  y-new : place G t v .y v
+      ≡ (t .x (s .q) + shift t (s .M) (s .q ∷ s .Y) (s .q) - (t .x (s .p) + shift t (s .M) (s .q ∷ s .Y) (s .p)) + t .y (s .q) + t .y (s .p)) / 2
+  unfolding place placeOver
+  y-new = rw (eqb-same v, inner-is, right-is, first-is, last-is)
+
+  -- the new post, from w_p and w_q where these stand now
+  pub place-x-new : place G t v .x v ≡ (place G t v .x (s .p) + place G t v .x (s .q) + t .y (s .q) - t .y (s .p)) / 2
+  place-x-new = rw (place-x-old (s .p) p-old, place-x-old (s .q) q-old) x-new
+
+  pub place-y-new : place G t v .y v ≡ (place G t v .x (s .q) - place G t v .x (s .p) + t .y (s .q) + t .y (s .p)) / 2
+  place-y-new = rw (place-x-old (s .p) p-old, place-x-old (s .q) q-old) y-new

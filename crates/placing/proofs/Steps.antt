@@ -1,0 +1,232 @@
+-- Each stage has its contour, and the step to the next post keeps to it: its run is a stretch of the contour, and the post takes the place
+-- of the posts that the run covers. Whatever holds at stage 3 and is kept by each step holds at every stage.
+use mathlib.Core.Path.{_≡_, refl, sym, ap, _∙_, subst, subst⁻¹}
+use mathlib.Core.Logic.{_⊎_, inl, inr}
+use mathlib.Core.Bool.{Bool, true, false, cond}
+use mathlib.Core.List.{List, [], _∷_, _++_, append-assoc, append-nil}
+use Prim.Native.Nat.{ℕ, zero, suc, _+_, _-_, _≤_, _<_}
+use native.Mathlib.Omega.{arith}
+use native.Mathlib.Numerals.{add-one}
+use lib.Dec.{eqb}
+use lib.ListN.{length, getD, take, drop, length-append}
+use lib.Seq.{take-suc, take-at, getD-take, length-take-le}
+use Rattle.words.specs.Lists.{In, lastOf}
+use Rattle.words.specs.Positions.{post, earlier}
+use Rattle.words.proofs.Lists.{Once, once-split, last-append}
+use Rattle.words.proofs.Tests.{eqb-same, eqb-other}
+use Rattle.words.proofs.Positions.{post-new, earlier-next}
+use Rattle.rings.specs.Rings.{ring}
+use Rattle.rings.proofs.Around.{After}
+use Rattle.order.specs.Order.{run}
+use Rattle.order.proofs.Contour.{Contour}
+use Rattle.order.proofs.Growth.{Grown, grow-at, start-at, run-near, run-whole, take-two}
+use Rattle.order.proofs.Sound.{Passes, passes-names, passes-faces, passes-outer}
+use Rattle.placing.specs.Stages.{Stage, third, upTo, onFrom, inner, placeOver, place, placeAll, stage}
+
+-- ---- a contour cut at the ends of a run
+pub up-to-at : (X : List ℕ) (p : ℕ) (Z : List ℕ) → ¬ (In p X) → upTo p (X ++ p ∷ Z) ≡ X ++ p ∷ []
+unfolding upTo
+up-to-at [] p Z h = rw (eqb-same p)
+up-to-at (x ∷ X) p Z h = rw (eqb-other x p (λ e. h (inl (sym e))), up-to-at X p Z (λ i. h (inr i)))
+
+pub on-from-at : (X : List ℕ) (q : ℕ) (Y : List ℕ) → ¬ (In q X) → onFrom q (X ++ q ∷ Y) ≡ q ∷ Y
+unfolding onFrom
+on-from-at [] q Y h = rw (eqb-same q)
+on-from-at (x ∷ X) q Y h = rw (eqb-other x q (λ e. h (inl (sym e)))) (on-from-at X q Y (λ i. h (inr i)))
+
+pub once-before : (X : List ℕ) (p : ℕ) (Z : List ℕ) → Once (X ++ p ∷ Z) → ¬ (In p X)
+once-before X p Z o h = once-split X (p ∷ Z) o .1 p h (inl refl)
+
+module _ (X : List ℕ) (p : ℕ) (M : List ℕ) (q : ℕ) (Y : List ℕ) (o : Once (X ++ p ∷ (M ++ q ∷ Y))) where
+  pub up-to-run : upTo p (X ++ p ∷ (M ++ q ∷ Y)) ≡ X ++ p ∷ []
+  up-to-run = up-to-at X p (M ++ q ∷ Y) (once-before X p (M ++ q ∷ Y) o)
+
+  pub on-from-run : onFrom q (X ++ p ∷ (M ++ q ∷ Y)) ≡ q ∷ Y
+  on-from-run =
+      let e : X ++ p ∷ (M ++ q ∷ Y) ≡ (X ++ p ∷ M) ++ q ∷ Y = sym (append-assoc X (p ∷ M) (q ∷ Y)) in
+      rw e (on-from-at (X ++ p ∷ M) q Y (once-before (X ++ p ∷ M) q Y (rw e at o)))
+
+-- a run without its ends
+pub inner-run : (p : ℕ) (M : List ℕ) (q : ℕ) → inner (p ∷ (M ++ q ∷ [])) ≡ M
+inner-run p M q = take-at M (q ∷ []) (suc (length (M ++ q ∷ [])) - 2) (omega (arith, length-append M (q ∷ [])))
+
+-- ---- the step
+pub record Step (G : List (List ℕ)) (t : Stage) (v : ℕ) : Type 0 where
+  pub X : List ℕ
+  pub M : List ℕ
+  pub Y : List ℕ
+  pub p : ℕ
+  pub q : ℕ
+  pub run-is : run G (t .placed) v ≡ p ∷ (M ++ q ∷ [])
+  pub before : t .contour ≡ X ++ p ∷ (M ++ q ∷ Y)
+  pub after : place G t v .contour ≡ X ++ p ∷ v ∷ q ∷ Y
+  pub new : ¬ (In v (t .placed))
+  pub once : Once (t .contour)
+  pub on-placed : (a : ℕ) → In a (t .contour) → In a (t .placed)
+  pub run-all : (a : ℕ) → In a (ring G v) → In a (t .placed) → In a (p ∷ (M ++ q ∷ []))
+  pub run-near : (a : ℕ) → In a (p ∷ (M ++ q ∷ [])) → In a (ring G v)
+  pub old : Contour (After G) (post (t .placed) 1) (post (t .placed) 2) (t .placed) (t .contour)
+  pub now : Contour (After G) (post (t .placed) 1) (post (t .placed) 2) (place G t v .placed) (place G t v .contour)
+
+place-contour : (G : List (List ℕ)) (t : Stage) (v : ℕ) (X M Y : List ℕ) (p q : ℕ) → run G (t .placed) v ≡ p ∷ (M ++ q ∷ []) → t .contour ≡ X ++ p ∷ (M ++ q ∷ Y) → Once (t .contour) → place G t v .contour ≡ X ++ p ∷ v ∷ q ∷ Y
+unfolding place placeOver
+place-contour G t v X M Y p q r b o =
+    let c = up-to-run X p M q Y (rw b at o) in
+    let d = on-from-run X p M q Y (rw b at o) in
+    rw (r, b, last-append p M q [], c, d) (append-assoc X (p ∷ []) (v ∷ q ∷ Y))
+
+pub place-placed : (G : List (List ℕ)) (t : Stage) (v : ℕ) → place G t v .placed ≡ t .placed ++ v ∷ []
+unfolding place placeOver
+place-placed G t v = refl
+
+-- ---- stages, a post at a time
+placeAll-next : (G : List (List ℕ)) (ws : List ℕ) (t : Stage) (v : ℕ) → placeAll G t (ws ++ v ∷ []) ≡ place G (placeAll G t ws) v
+unfolding placeAll
+placeAll-next G [] t v = refl
+placeAll-next G (w ∷ ws) t v = placeAll-next G ws (place G t w) v
+
+placeAll-placed : (G : List (List ℕ)) (ws : List ℕ) (t : Stage) → placeAll G t ws .placed ≡ t .placed ++ ws
+unfolding placeAll
+placeAll-placed G [] t = sym (append-nil (t .placed))
+placeAll-placed G (w ∷ ws) t = placeAll-placed G ws (place G t w) ∙ ap (λ (l : List ℕ). l ++ ws) (place-placed G t w) ∙ append-assoc (t .placed) (w ∷ []) ws
+
+stage-more : (G : List (List ℕ)) (ps : List ℕ) (v : ℕ) → 3 ≤ length ps → stage G (ps ++ v ∷ []) ≡ place G (stage G ps) v
+unfolding stage
+stage-more G [] v h = absurd (omega arith)
+stage-more G (a ∷ []) v h = absurd (omega arith)
+stage-more G (a ∷ b ∷ []) v h = absurd (omega arith)
+stage-more G (a ∷ b ∷ c ∷ l) v h = placeAll-next G l (third a b c) v
+
+pub stage-has : (G : List (List ℕ)) (ps : List ℕ) → 3 ≤ length ps → stage G ps .placed ≡ ps
+unfolding stage third
+stage-has G [] h = absurd (omega arith)
+stage-has G (a ∷ []) h = absurd (omega arith)
+stage-has G (a ∷ b ∷ []) h = absurd (omega arith)
+stage-has G (a ∷ b ∷ c ∷ l) h = placeAll-placed G l (third a b c)
+
+module _ (G : List (List ℕ)) (vs : List ℕ) where
+  pub stage-third : 3 ≤ length vs → stage G (take 3 vs) ≡ third (post vs 1) (post vs 2) (post vs 3)
+  unfolding stage placeAll
+  stage-third h = go vs h
+    where
+      go : (vs : List ℕ) → 3 ≤ length vs → stage G (take 3 vs) ≡ third (post vs 1) (post vs 2) (post vs 3)
+      go [] h = absurd (omega arith)
+      go (a ∷ []) h = absurd (omega arith)
+      go (a ∷ b ∷ []) h = absurd (omega arith)
+      go (a ∷ b ∷ c ∷ l) h = refl
+
+  pub stage-next : (k : ℕ) → 3 ≤ k → k < length vs → stage G (take (k + 1) vs) ≡ place G (stage G (take k vs)) (post vs (k + 1))
+  stage-next k h i =
+      let e : k + 1 - 1 ≡ k = omega arith in
+      rw (e, add-one, take-suc vs k 0 i) (stage-more G (take k vs) (getD vs k 0) (let l = length-take-le k vs (omega arith) in omega arith))
+
+  pub stage-placed : (k : ℕ) → 3 ≤ k → k ≤ length vs → stage G (take k vs) .placed ≡ take k vs
+  stage-placed k h i = stage-has G (take k vs) (let l = length-take-le k vs i in omega arith)
+
+-- ---- an order that passes the tests
+from-three : (Q : ℕ → Type 0) (n : ℕ) → Q 3 → ((k : ℕ) → 3 ≤ k → k < n → Q k → Q (k + 1)) → (k : ℕ) → 3 ≤ k → k ≤ n → Q k
+from-three Q n b f zero h i = absurd (omega arith)
+from-three Q n b f (suc zero) h i = absurd (omega arith)
+from-three Q n b f (suc (suc zero)) h i = absurd (omega arith)
+from-three Q n b f (suc (suc (suc zero))) h i = b
+from-three Q n b f (suc (suc (suc (suc k)))) h i = rw add-one at (f (suc (suc (suc k))) (omega arith) i (from-three Q n b f (suc (suc (suc k))) (omega arith) (omega arith)))
+
+two-long : (X M Y : List ℕ) (v1 v2 v3 p q : ℕ) → v1 ∷ v2 ∷ [] ≡ X ++ p ∷ (M ++ q ∷ Y) → X ++ p ∷ v3 ∷ q ∷ Y ≡ v1 ∷ v3 ∷ v2 ∷ []
+two-long [] [] [] v1 v2 v3 p q e = cc e
+two-long [] [] (y ∷ Y) v1 v2 v3 p q e = absurd (omega (arith, ap length e))
+two-long [] (m ∷ M) Y v1 v2 v3 p q e = absurd (omega (arith, ap length e, length-append M (q ∷ Y)))
+two-long (x ∷ X) M Y v1 v2 v3 p q e = absurd (omega (arith, ap length e, length-append X (p ∷ (M ++ q ∷ Y)), length-append M (q ∷ Y)))
+
+at-ends : (G : List (List ℕ)) (a b c d : ℕ) (placed K : List ℕ) → a ≡ c → b ≡ d → Contour (After G) c d placed K → Contour (After G) a b placed K
+at-ends G a b c d placed K e f C = rw (e, f) C
+
+module _ (G : List (List ℕ)) (vs : List ℕ) (A : Passes G vs) where
+  -- the step to the post in position k
+  step : (k : ℕ) → 3 ≤ k → k ≤ length G → (t : Stage) → t .placed ≡ earlier vs k → Contour (After G) (post vs 1) (post vs 2) (t .placed) (t .contour) → Step G t (post vs k)
+  step k h i t e C =
+      let n : length vs ≡ length G = A .all in
+      go (subst⁻¹ (λ (l : List ℕ). Grown G (post vs 1) (post vs 2) l (t .contour) (post vs k)) e
+      (grow-at G vs (passes-faces G vs A) (passes-outer G vs A) (passes-names G vs A) k h i (t .contour)
+      (subst (λ (l : List ℕ). Contour (After G) (post vs 1) (post vs 2) l (t .contour)) e C) (A .two k h i) (A .run k h i)))
+      (λ j. post-new vs (passes-names G vs A .once) k (omega arith) (omega arith) (subst (In (post vs k)) e j))
+      (ap (λ (l : List ℕ). post l 1) e ∙ getD-take (k - 1) vs 0 0 (omega arith))
+      (ap (λ (l : List ℕ). post l 2) e ∙ getD-take (k - 1) vs 1 0 (omega arith))
+    where
+      v : ℕ
+      v = post vs k
+
+      go : Grown G (post vs 1) (post vs 2) (t .placed) (t .contour) v → ¬ (In v (t .placed)) → post (t .placed) 1 ≡ post vs 1 → post (t .placed) 2 ≡ post vs 2 → Step G t v
+      go g new e1 e2 =
+          let a = place-contour G t v (g .X) (g .M) (g .Y) (g .p) (g .q) (g .run-is) (g .before) (C .once) in
+          record {
+            X = g .X;
+            M = g .M;
+            Y = g .Y;
+            p = g .p;
+            q = g .q;
+            run-is = g .run-is;
+            before = g .before;
+            after = a;
+            new = new;
+            once = C .once;
+            on-placed = C .placed;
+            run-all = run-whole G (passes-faces G vs A) (post vs 1) (post vs 2) (post vs (length G)) (passes-outer G vs A) (t .placed) (t .contour) v g new;
+            run-near = λ a j. run-near G (t .placed) v a (rw (g .run-is) j);
+            old = at-ends G _ _ (post vs 1) (post vs 2) (t .placed) (t .contour) e1 e2 C;
+            now = at-ends G _ _ (post vs 1) (post vs 2) (place G t v .placed) (place G t v .contour) e1 e2
+                (subst⁻¹ (λ (l : List ℕ). Contour (After G) (post vs 1) (post vs 2) l (place G t v .contour)) (place-placed G t v)
+                (subst⁻¹ (Contour (After G) (post vs 1) (post vs 2) (t .placed ++ v ∷ [])) a (g .now)));
+          }
+
+  third-step : 3 ≤ length G → Grown G (post vs 1) (post vs 2) (earlier vs 3) (post vs 1 ∷ post vs 2 ∷ []) (post vs 3)
+  third-step h =
+      let F = passes-faces G vs A in
+      let o = passes-outer G vs A in
+      let N = passes-names G vs A in
+      grow-at G vs F o N 3 (omega arith) h (post vs 1 ∷ post vs 2 ∷ []) (start-at G vs F o N (omega arith)) (A .two 3 (omega arith) h) (A .run 3 (omega arith) h)
+
+  -- stage 3's contour is v1, v3, v2
+  pub third-contour : 3 ≤ length G → Contour (After G) (post vs 1) (post vs 2) (take 3 vs) (post vs 1 ∷ post vs 3 ∷ post vs 2 ∷ [])
+  third-contour h =
+      let n : length vs ≡ length G = A .all in
+      let g = third-step h in
+      rw (earlier-next vs 3 (omega arith) (omega arith))
+      (subst (Contour (After G) (post vs 1) (post vs 2) (earlier vs 3 ++ post vs 3 ∷ [])) (two-long (g .X) (g .M) (g .Y) (post vs 1) (post vs 2) (post vs 3) (g .p) (g .q) (g .before)) (g .now))
+
+  -- the step from a stage with its contour
+  step-from : (k : ℕ) → 3 ≤ k → k < length G → Contour (After G) (post vs 1) (post vs 2) (take k vs) (stage G (take k vs) .contour) → Step G (stage G (take k vs)) (post vs (k + 1))
+  step-from k h i C =
+      let n : length vs ≡ length G = A .all in
+      let s : k ≡ k + 1 - 1 = omega arith in
+      let e = stage-placed G vs k h (omega arith) in
+      step (k + 1) (omega arith) (omega arith) (stage G (take k vs)) (e ∙ ap (λ (j : ℕ). take j vs) s)
+      (subst⁻¹ (λ (l : List ℕ). Contour (After G) (post vs 1) (post vs 2) l (stage G (take k vs) .contour)) e C)
+
+  stage-now : (k : ℕ) → 3 ≤ k → k < length G → Step G (stage G (take k vs)) (post vs (k + 1)) → Contour (After G) (post vs 1) (post vs 2) (take (k + 1) vs) (stage G (take (k + 1) vs) .contour)
+  stage-now k h i s =
+      let n : length vs ≡ length G = A .all in
+      let e = stage-placed G vs k h (omega arith) in
+      let C = at-ends G (post vs 1) (post vs 2) _ _ (place G (stage G (take k vs)) (post vs (k + 1)) .placed) (place G (stage G (take k vs)) (post vs (k + 1)) .contour)
+      (sym (ap (λ (l : List ℕ). post l 1) e ∙ getD-take k vs 0 0 (omega arith)))
+      (sym (ap (λ (l : List ℕ). post l 2) e ∙ getD-take k vs 1 0 (omega arith))) (s .now) in
+      let D : Contour (After G) (post vs 1) (post vs 2) (stage G (take (k + 1) vs) .placed) (stage G (take (k + 1) vs) .contour) = rw (stage-next G vs k h (omega arith)) C in
+      subst (λ (l : List ℕ). Contour (After G) (post vs 1) (post vs 2) l (stage G (take (k + 1) vs) .contour)) (stage-placed G vs (k + 1) (omega arith) (omega arith)) D
+
+  -- each stage from 3 on has its contour
+  pub contours : (k : ℕ) → 3 ≤ k → k ≤ length G → Contour (After G) (post vs 1) (post vs 2) (take k vs) (stage G (take k vs) .contour)
+  unfolding third
+  contours k h i =
+      let n : length vs ≡ length G = A .all in
+      from-three (λ k. Contour (After G) (post vs 1) (post vs 2) (take k vs) (stage G (take k vs) .contour)) (length G)
+      (rw (stage-third G vs (omega arith)) (third-contour (omega arith))) (λ k h i C. stage-now k h i (step-from k h i C)) k h i
+
+  -- and the next post its step
+  pub step-at : (k : ℕ) → 3 ≤ k → k < length G → Step G (stage G (take k vs)) (post vs (k + 1))
+  step-at k h i = step-from k h i (contours k h (omega arith))
+
+  pub at-each-stage : (P : Stage → Type 0) → P (third (post vs 1) (post vs 2) (post vs 3)) → ((t : Stage) (v : ℕ) → Step G t v → P t → P (place G t v))
+      → (k : ℕ) → 3 ≤ k → k ≤ length vs → P (stage G (take k vs))
+  at-each-stage P base f k h i =
+      let n : length vs ≡ length G = A .all in
+      from-three (λ k. P (stage G (take k vs))) (length vs) (rw (stage-third G vs (omega arith)) base)
+      (λ k h i r. subst⁻¹ P (stage-next G vs k h i) (f (stage G (take k vs)) (post vs (k + 1)) (step-at k h (omega arith)) r)) k h i
