@@ -1,22 +1,21 @@
 -- The contour grows by a post at a time, as long as the order's tests pass; and so step 14 never refuses.
-use mathlib.Core.Path.{_≡_, refl, sym, ap, _∙_, subst, subst⁻¹}
-use mathlib.Core.Logic.{_⊎_, inl, inr}
-use mathlib.Core.Bool.{Bool, true, false}
+use mathlib.Core.Path.{_≡_, refl, subst}
+use mathlib.Core.Bool.{true}
 use mathlib.Core.List.{List, [], _∷_, _++_}
-use Prim.Native.Nat.{ℕ, zero, suc, _+_, _-_, _≤_, _<_}
+use Prim.Native.Nat.{ℕ, zero, suc, _-_, _≤_, _<_}
 use native.Mathlib.Omega.{arith}
 use lib.Dec.{leb→le}
-use lib.ListN.{length, getD, take, drop}
+use lib.ListN.{length, take}
 use lib.Seq.{getD-take}
 use Rattle.words.specs.Lists.{In, mem, anyOf, count}
 use Rattle.words.specs.Positions.{post, earlier, later}
 use Rattle.words.proofs.Lists.{Adj, Once, in-left, all-there}
-use Rattle.words.proofs.Tests.{holds, is-true, not-not, count-found, none-says, in-mem, once-different, place-in}
+use Rattle.words.proofs.Tests.{holds, is-true, not-not, count-found, none-says, in-mem, once-different}
 use Rattle.words.proofs.Positions.{in-later, earlier-next, post-new, earlier-or}
 use Rattle.rings.specs.Rings.{ring}
 use Rattle.rings.proofs.Around.{After, around-next}
 use Rattle.rings.proofs.Says.{Faces, entry-below, entry-other}
-use Rattle.order.specs.Order.{twoPlaced, lead, rest, from, oneRun, oneLater, run}
+use Rattle.order.specs.Order.{twoPlaced, lead, rest, oneRun, oneLater, run}
 use Rattle.order.proofs.Contour.{Run, Contour, start, run-stretch, kept, run-all}
 use Rattle.order.proofs.Tests.{lead-rest, from-out}
 use Rattle.order.proofs.Runs.{rings, RunIs, the-run-is, whole-is-last}

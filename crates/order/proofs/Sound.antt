@@ -1,30 +1,30 @@
 -- The deciding theorem: lists and an order pass the tests of steps 7 to 14 exactly if they are a triangulated plane graph with a canonical
 -- order. Nothing tests that the graph is connected: it follows from the order.
-use mathlib.Core.Path.{_≡_, refl, sym, ap, _∙_, subst}
-use mathlib.Core.Logic.{_⊎_, inl, inr, _≢_}
+use mathlib.Core.Path.{_≡_, refl, sym}
+use mathlib.Core.Logic.{inl, inr, _≢_}
 use mathlib.Core.Bool.{Bool, true, false, _||_}
-use mathlib.Core.List.{List, [], _∷_, _++_, map}
-use Prim.Native.Nat.{ℕ, zero, suc, _+_, _*_, _-_, _≤_, _<_}
+use mathlib.Core.List.{List, [], _∷_, map}
+use Prim.Native.Nat.{ℕ, zero, suc, _*_, _-_, _≤_, _<_}
 use native.Mathlib.Omega.{arith}
-use native.Mathlib.Decide.{ℕ-discrete, decLt}
-use lib.Dec.{T, ltb, leb}
-use lib.ListN.{length, getD, take, drop, List·getD-map}
+use native.Mathlib.Decide.{decLt}
+use lib.Dec.{ltb, leb}
+use lib.ListN.{length, getD, take, List·getD-map}
 use lib.Seq.{take-suc, take-length}
 use borrow.Author.Tests.{leb-false, lt-leb, le-ltb}
 use Rattle.words.specs.Numbers.{sumOf}
 use Rattle.words.specs.Lists.{In, Different, mem}
-use Rattle.words.specs.Positions.{post, earlier, later, Earlier}
-use Rattle.words.proofs.Lists.{Once, in-left, in-right, in-cases, all-there, once-length}
-use Rattle.words.proofs.Tests.{holds, is-true, is-false, fails, mem-in, in-mem, place-in, in-place, different-once, once-different}
-use Rattle.words.proofs.Positions.{in-take, take-in, post-suc, earlier-in, post-new}
+use Rattle.words.specs.Positions.{post, earlier, later}
+use Rattle.words.proofs.Lists.{in-cases, all-there, once-length}
+use Rattle.words.proofs.Tests.{is-false, fails, mem-in, in-mem, place-in, in-place, different-once, once-different}
+use Rattle.words.proofs.Positions.{take-in, earlier-in, post-new}
 use Rattle.block.specs.Block.{badEntry, badDegree}
 use Rattle.rings.specs.Rings.{ring, around, ringRule, triangleRule, outerRule}
-use Rattle.rings.specs.Plane.{Follows, Reached, Plane}
+use Rattle.rings.specs.Plane.{Reached, Plane}
 use Rattle.rings.specs.Plane.Reached.{here, along}
-use Rattle.rings.proofs.Around.{After, follows-after, after-follows, around-in}
-use Rattle.rings.proofs.Says.{RingKept, Faces, ring-says, says-ring, triangle-says, says-triangle, outer-says, says-outer, faces-tested, faces-plane, entry-below, entry-other, entry-returned, ring-once}
+use Rattle.rings.proofs.Around.{After, follows-after, around-in}
+use Rattle.rings.proofs.Says.{Faces, says-ring, triangle-says, says-triangle, outer-says, says-outer, faces-tested, faces-plane, entry-below, entry-other, entry-returned, ring-once}
 use Rattle.order.specs.Order.{twoPlaced, oneRun, oneLater}
-use Rattle.order.specs.Canonical.{Two, OneRun, Canonical}
+use Rattle.order.specs.Canonical.{Two, Canonical}
 use Rattle.order.proofs.Tests.{two-says, says-two, run-says, says-run, later-says, says-later}
 use Rattle.order.proofs.Growth.{Names}
 

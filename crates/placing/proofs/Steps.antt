@@ -1,16 +1,14 @@
 -- Each stage has its contour, and the step to the next post keeps to it: its run is a stretch of the contour, and the post takes the place
 -- of the posts that the run covers. Whatever holds at stage 3 and is kept by each step holds at every stage.
 use mathlib.Core.Path.{_≡_, refl, sym, ap, _∙_, subst, subst⁻¹}
-use mathlib.Core.Logic.{_⊎_, inl, inr}
-use mathlib.Core.Bool.{Bool, true, false, cond}
+use mathlib.Core.Logic.{inl, inr}
 use mathlib.Core.List.{List, [], _∷_, _++_, append-assoc, append-nil}
 use Prim.Native.Nat.{ℕ, zero, suc, _+_, _-_, _≤_, _<_}
 use native.Mathlib.Omega.{arith}
 use native.Mathlib.Numerals.{add-one}
-use lib.Dec.{eqb}
-use lib.ListN.{length, getD, take, drop, length-append}
+use lib.ListN.{length, getD, take, length-append}
 use lib.Seq.{take-suc, take-at, getD-take, length-take-le}
-use Rattle.words.specs.Lists.{In, lastOf}
+use Rattle.words.specs.Lists.{In}
 use Rattle.words.specs.Positions.{post, earlier}
 use Rattle.words.proofs.Lists.{Once, once-split, last-append}
 use Rattle.words.proofs.Tests.{eqb-same, eqb-other}
@@ -19,7 +17,7 @@ use Rattle.rings.specs.Rings.{ring}
 use Rattle.rings.proofs.Around.{After}
 use Rattle.order.specs.Order.{run}
 use Rattle.order.proofs.Contour.{Contour}
-use Rattle.order.proofs.Growth.{Grown, grow-at, start-at, run-near, run-whole, take-two}
+use Rattle.order.proofs.Growth.{Grown, grow-at, start-at, run-near, run-whole}
 use Rattle.order.proofs.Sound.{Passes, passes-names, passes-faces, passes-outer}
 use Rattle.placing.specs.Stages.{Stage, third, upTo, onFrom, inner, placeOver, place, placeAll, stage}
 
