@@ -50,21 +50,21 @@ false-or : (x y : Bool) → x ≡ false → y ≡ false → x || y ≡ false
 false-or x y e f = rw (e, f)
 
 module _ (n : ℕ) (vs : List ℕ) where
-  pub entry-says : (k : ℕ) → badEntry n vs k ≡ false → (post vs k < n) × ¬ (In (post vs k) (earlier vs k))
+  pub position-says : (k : ℕ) → badEntry n vs k ≡ false → (post vs k < n) × ¬ (In (post vs k) (earlier vs k))
   unfolding badEntry
-  entry-says k e =
+  position-says k e =
       let t = or-false (leb n (post vs k)) (mem (earlier vs k) (post vs k)) e in
       (leb-false n (post vs k) (t .0), λ h. fails (mem (earlier vs k) (post vs k)) (t .1) (in-mem (earlier vs k) (post vs k) h))
 
-  pub says-entry : (k : ℕ) → post vs k < n → ¬ (In (post vs k) (earlier vs k)) → badEntry n vs k ≡ false
+  pub says-position : (k : ℕ) → post vs k < n → ¬ (In (post vs k) (earlier vs k)) → badEntry n vs k ≡ false
   unfolding badEntry
-  says-entry k h i =
+  says-position k h i =
       false-or (leb n (post vs k)) (mem (earlier vs k) (post vs k)) (lt-leb n (post vs k) h) (is-false (mem (earlier vs k) (post vs k)) (λ t. i (mem-in (earlier vs k) (post vs k) t)))
 
   module _ (good : (k : ℕ) → 1 ≤ k → k ≤ length vs → badEntry n vs k ≡ false) where
     at : (i : ℕ) → i < length vs → (getD vs i 0 < n) × ¬ (In (getD vs i 0) (take i vs))
     at i h =
-        let t = entry-says (suc i) (good (suc i) (omega arith) (omega arith)) in
+        let t = position-says (suc i) (good (suc i) (omega arith) (omega arith)) in
         let e : suc i - 1 ≡ i = omega arith in
         rw e at t
 
@@ -192,7 +192,7 @@ module _ (G : List (List ℕ)) (vs : List ℕ) where
       let n : length vs ≡ length G = C .all in
       record {
         all = n;
-        entries = λ k a b. says-entry (length G) vs k (C .below (post vs k) (place-in vs (k - 1) (omega arith))) (post-new vs (different-once vs (C .once)) k a (omega arith));
+        entries = λ k a b. says-position (length G) vs k (C .below (post vs k) (place-in vs (k - 1) (omega arith))) (post-new vs (different-once vs (C .once)) k a (omega arith));
         degrees = λ u h. let x = some-near (post vs 1) u P h in says-degree G u (degree-least G u F (x .0) (x .1)) (degree-most G u F h);
         total = P .entries;
         rings = λ u h. says-ring G u (F .kept u h);

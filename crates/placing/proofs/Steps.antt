@@ -51,6 +51,8 @@ pub inner-run : (p : ℕ) (M : List ℕ) (q : ℕ) → inner (p ∷ (M ++ q ∷ 
 inner-run p M q = take-at M (q ∷ []) (suc (length (M ++ q ∷ [])) - 2) (omega (arith, length-append M (q ∷ [])))
 
 -- ---- the step
+-- From stage t to v, a new post: its run w_p to w_q is p ∷ (M ++ q ∷ []), a stretch of the contour, and v takes the place of M there. The run
+-- is the neighbours of v that are placed. `old` and `now` are the contour's invariant before and after, from v1 to v2.
 pub record Step (G : List (List ℕ)) (t : Stage) (v : ℕ) : Type 0 where
   pub X : List ℕ
   pub M : List ℕ
@@ -72,7 +74,8 @@ pub record Step (G : List (List ℕ)) (t : Stage) (v : ℕ) : Type 0 where
   pub old : Contour (After G) (post (t .placed) 1) (post (t .placed) 2) (t .placed) (t .contour)
   pub now : Contour (After G) (post (t .placed) 1) (post (t .placed) 2) (place G t v .placed) (place G t v .contour)
 
-place-contour : (G : List (List ℕ)) (t : Stage) (v : ℕ) (X M Y : List ℕ) (p q : ℕ) → run G (t .placed) v ≡ p ∷ (M ++ q ∷ []) → t .contour ≡ X ++ p ∷ (M ++ q ∷ Y) → Once (t .contour) → place G t v .contour ≡ X ++ p ∷ v ∷ q ∷ Y
+place-contour : (G : List (List ℕ)) (t : Stage) (v : ℕ) (X M Y : List ℕ) (p q : ℕ) → run G (t .placed) v ≡ p ∷ (M ++ q ∷ []) → t .contour ≡ X ++ p ∷ (M ++ q ∷ Y)
+    → Once (t .contour) → place G t v .contour ≡ X ++ p ∷ v ∷ q ∷ Y
 unfolding place placeOver
 place-contour G t v X M Y p q r b o =
     let c = up-to-run X p M q Y (rw b at o) in
@@ -128,6 +131,7 @@ module _ (G : List (List ℕ)) (vs : List ℕ) where
   stage-placed k h i = stage-has G (take k vs) (let l = length-take-le k vs i in omega arith)
 
 -- ---- an order that passes the tests
+-- from 3 on, a number at a time
 from-three : (Q : ℕ → Type 0) (n : ℕ) → Q 3 → ((k : ℕ) → 3 ≤ k → k < n → Q k → Q (k + 1)) → (k : ℕ) → 3 ≤ k → k ≤ n → Q k
 from-three Q n b f zero h i = absurd (omega arith)
 from-three Q n b f (suc zero) h i = absurd (omega arith)
@@ -135,6 +139,7 @@ from-three Q n b f (suc (suc zero)) h i = absurd (omega arith)
 from-three Q n b f (suc (suc (suc zero))) h i = b
 from-three Q n b f (suc (suc (suc (suc k)))) h i = rw add-one at (f (suc (suc (suc k))) (omega arith) i (from-three Q n b f (suc (suc (suc k))) (omega arith) (omega arith)))
 
+-- with M between them v1 and v2 are the whole contour v1, v2: v3 comes between them
 two-long : (X M Y : List ℕ) (v1 v2 v3 p q : ℕ) → v1 ∷ v2 ∷ [] ≡ X ++ p ∷ (M ++ q ∷ Y) → X ++ p ∷ v3 ∷ q ∷ Y ≡ v1 ∷ v3 ∷ v2 ∷ []
 two-long [] [] [] v1 v2 v3 p q e = cc e
 two-long [] [] (y ∷ Y) v1 v2 v3 p q e = absurd (omega (arith, ap length e))
