@@ -1,6 +1,6 @@
 -- From rings to the contour: one invariant of the stages, for any relation "b follows a at u" that keeps the rules of rings and triangles.
 use mathlib.Core.Path.{_≡_, refl, sym, ap, _∙_}
-use mathlib.Core.Logic.{_⊎_, inl, inr}
+use mathlib.Core.Logic.{inl, inr}
 use Prim.Native.Nat.{ℕ}
 use mathlib.Core.List.{List, [], _∷_, _++_, append-assoc}
 use Rattle.words.specs.Lists.{In, lastOf}

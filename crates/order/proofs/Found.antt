@@ -1,26 +1,26 @@
 -- What a loop over a ring's places finds: how many runs there are, where the run begins, how long it is, and its entries.
-use mathlib.Core.Path.{_≡_, refl, sym, ap, _∙_, subst, subst⁻¹}
-use mathlib.Core.Logic.{_⊎_, inl, inr}
-use mathlib.Core.Bool.{Bool, true, false, not, cond, _&&_, _||_}
+use mathlib.Core.Path.{_≡_, refl, sym, ap, _∙_, subst}
+use mathlib.Core.Logic.{inl, inr}
+use mathlib.Core.Bool.{true, not}
 use mathlib.Core.List.{List, [], _∷_, _++_, append-assoc, append-nil}
-use Prim.Native.Nat.{ℕ, zero, suc, _+_, _-_, _≤_, _<_}
+use Prim.Native.Nat.{ℕ, suc, _+_, _-_, _≤_, _<_}
 use native.Mathlib.Omega.{arith}
 use native.Mathlib.Decide.{decLt}
 use lib.Dec.{T, eqb, eqb→eq, eqb-refl, T-not, not-T}
-use lib.ListN.{length, getD, take, drop, length-append, length-drop, take-append-drop, List·getD-append}
-use lib.Seq.{drop-cons, getD-drop, getD-take, getD-append-add, length-take-le}
-use Rattle.words.specs.First.{numbers, first, some}
-use Rattle.words.specs.Lists.{In, mem, allOf, anyOf, count}
+use lib.ListN.{length, getD, take, drop, length-drop, take-append-drop, List·getD-append}
+use lib.Seq.{drop-cons, getD-drop, getD-take, getD-append-add}
+use Rattle.words.specs.First.{numbers, first}
+use Rattle.words.specs.Lists.{In, mem, allOf, count}
 use Rattle.words.specs.Positions.{post}
 use Rattle.words.proofs.First.{some-found, first-found}
-use Rattle.words.proofs.Lists.{Adj, Once, in-left, in-right, in-cases, in-turn, adj-in-right}
-use Rattle.words.proofs.Tests.{holds, is-true, is-false, fails, both, join, either, or-left, or-right, mem-in, in-mem, all-says, says-all, place-in, count-append, count-none, count-all, once-different}
+use Rattle.words.proofs.Lists.{Adj, Once, in-cases, adj-in-right}
+use Rattle.words.proofs.Tests.{holds, is-true, both, either, or-left, or-right, mem-in, in-mem, all-says, says-all, place-in, count-append, count-none, count-all, once-different}
 use Rattle.rings.specs.Rings.{ring, around}
-use Rattle.rings.proofs.Around.{After, around-in, around-turn}
+use Rattle.rings.proofs.Around.{around-turn}
 use Rattle.rings.proofs.Places.{after, after-inside, after-end, place-around}
 use Rattle.order.specs.Order.{from, lead, rest, leads, oneRun, begins, run}
 use Rattle.order.proofs.Tests.{lead-rest, lead-placed, lead-all, leads-says, says-leads, from-out, begins-says, says-begins}
-use Rattle.order.proofs.Starts.{starts, startsAt, starts-places, one-run-starts, starts-one-run}
+use Rattle.order.proofs.Starts.{startsAt, starts-places, one-run-starts, starts-one-run}
 
 -- ---- how many runs
 module _ (G : List (List ℕ)) (placed : List ℕ) (v : ℕ) where

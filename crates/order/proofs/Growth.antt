@@ -1,22 +1,21 @@
 -- The contour grows by a post at a time, as long as the order's tests pass; and so step 14 never refuses.
-use mathlib.Core.Path.{_≡_, refl, sym, ap, _∙_, subst, subst⁻¹}
-use mathlib.Core.Logic.{_⊎_, inl, inr}
-use mathlib.Core.Bool.{Bool, true, false}
+use mathlib.Core.Path.{_≡_, refl, subst}
+use mathlib.Core.Bool.{true}
 use mathlib.Core.List.{List, [], _∷_, _++_}
-use Prim.Native.Nat.{ℕ, zero, suc, _+_, _-_, _≤_, _<_}
+use Prim.Native.Nat.{ℕ, zero, suc, _-_, _≤_, _<_}
 use native.Mathlib.Omega.{arith}
 use lib.Dec.{leb→le}
-use lib.ListN.{length, getD, take, drop}
+use lib.ListN.{length, take}
 use lib.Seq.{getD-take}
 use Rattle.words.specs.Lists.{In, mem, anyOf, count}
 use Rattle.words.specs.Positions.{post, earlier, later}
 use Rattle.words.proofs.Lists.{Adj, Once, in-left, all-there}
-use Rattle.words.proofs.Tests.{holds, is-true, not-not, count-found, none-says, in-mem, once-different, place-in}
+use Rattle.words.proofs.Tests.{holds, is-true, not-not, count-found, none-says, in-mem, once-different}
 use Rattle.words.proofs.Positions.{in-later, earlier-next, post-new, earlier-or}
 use Rattle.rings.specs.Rings.{ring}
 use Rattle.rings.proofs.Around.{After, around-next}
 use Rattle.rings.proofs.Says.{Faces, entry-below, entry-other}
-use Rattle.order.specs.Order.{twoPlaced, lead, rest, from, oneRun, oneLater, run}
+use Rattle.order.specs.Order.{twoPlaced, lead, rest, oneRun, oneLater, run}
 use Rattle.order.proofs.Contour.{Run, Contour, start, run-stretch, kept, run-all}
 use Rattle.order.proofs.Tests.{lead-rest, from-out}
 use Rattle.order.proofs.Runs.{rings, RunIs, the-run-is, whole-is-last}
@@ -39,16 +38,16 @@ pub run-near : (G : List (List ℕ)) (placed : List ℕ) (v a : ℕ) → In a (r
 unfolding run
 run-near G placed v a h = from-out _ (ring G v) a (subst (In a) (lead-rest placed _) (in-left a (lead placed _) (rest placed _) h))
 
-module _ (G : List (List ℕ)) (F : Faces G) (v1 v2 vn : ℕ) (outer : After G v2 v1 vn) where
-  -- a neighbour, where two are placed
-  near : (placed : List ℕ) (v : ℕ) → twoPlaced G placed v ≡ true → (x : ℕ) × In x (ring G v)
-  unfolding twoPlaced
-  near placed v two = let c : 2 ≤ count (mem placed) (ring G v) = leb→le 2 _ (holds _ two) in let t = count-found (mem placed) (ring G v) (omega arith) in (t .0, t .1)
+-- a neighbour, where two are placed
+near : (G : List (List ℕ)) (placed : List ℕ) (v : ℕ) → twoPlaced G placed v ≡ true → (x : ℕ) × In x (ring G v)
+unfolding twoPlaced
+near G placed v two = let c : 2 ≤ count (mem placed) (ring G v) = leb→le 2 _ (holds _ two) in let t = count-found (mem placed) (ring G v) (omega arith) in (t .0, t .1)
 
+module _ (G : List (List ℕ)) (F : Faces G) (v1 v2 vn : ℕ) (outer : After G v2 v1 vn) where
   pub grow : (placed K : List ℕ) (v : ℕ) → post placed 1 ≡ v1 → Contour (After G) v1 v2 placed K → ¬ (In v placed)
       → twoPlaced G placed v ≡ true → oneRun G placed v ≡ true → (v ≡ vn → (a : ℕ) → In a (ring G v) → In a placed) → Grown G v1 v2 placed K v
   grow placed K v head C new two one full =
-      go (the-run-is G F v1 v2 vn outer placed v head new two one (let x = near placed v two in whole-is-last G F v1 v2 vn outer placed K v C new (x .0) (x .1)) full)
+      go (the-run-is G F v1 v2 vn outer placed v head new two one (let x = near G placed v two in whole-is-last G F v1 v2 vn outer placed K v C new (x .0) (x .1)) full)
     where
       go : RunIs G v1 v2 placed v → Grown G v1 v2 placed K v
       go r =
@@ -140,7 +139,7 @@ module _ (G : List (List ℕ)) (vs : List ℕ) (F : Faces G) (outer : After G (p
   unfolding oneLater
   never-refused-14 k h i t two = is-true _ (not-not (anyOf (mem (later vs k)) (ring G (post vs k))) (λ none.
       let n : length vs ≡ length G = N .all in
-      let x = near G F (post vs 1) (post vs 2) (post vs (length G)) outer (earlier vs k) (post vs k) two in
+      let x = near G (earlier vs k) (post vs k) two in
       let c = contour-at (k - 1) (omega arith) (omega arith) (λ j a b. t j a (omega arith)) in
       let e = is-last k (omega arith) (omega arith)
       (whole-is-last G F (post vs 1) (post vs 2) (post vs (length G)) outer (earlier vs k) (c .0) (post vs k) (c .1) (post-new vs (N .once) k (omega arith) (omega arith)) (x .0) (x .1)

@@ -1,26 +1,26 @@
 -- The run of a new post: what the tests and `run` find in its ring, as the contour's laws want it.
 use mathlib.Core.Path.{_≡_, refl, sym, ap, _∙_, subst}
-use mathlib.Core.Logic.{_⊎_, inl, inr}
-use mathlib.Core.Bool.{Bool, true, false, not, _&&_, _||_}
+use mathlib.Core.Logic.{inl, inr}
+use mathlib.Core.Bool.{Bool, true, false, not, _||_}
 use mathlib.Core.List.{List, [], _∷_, _++_, append-assoc, append-nil}
-use Prim.Native.Nat.{ℕ, zero, suc, _+_, _≤_, _<_}
+use Prim.Native.Nat.{ℕ, suc, _≤_, _<_}
 use native.Mathlib.Omega.{arith}
 use native.Mathlib.Decide.{ℕ-discrete}
-use lib.Dec.{T, eqb, eqb→eq, eqb-refl, leb→le, T-not, not-T}
+use lib.Dec.{T, eqb, eqb→eq, eqb-refl, leb→le, T-not}
 use lib.ListN.{length, getD, take, drop, length-append, take-append-drop}
 use lib.Seq.{getD-at, drop-cons}
-use Rattle.words.specs.First.{first, some}
+use Rattle.words.specs.First.{first}
 use Rattle.words.specs.Lists.{In, mem, allOf, count}
 use Rattle.words.specs.Positions.{post}
 use Rattle.words.proofs.First.{some-found, first-found}
-use Rattle.words.proofs.Lists.{Head, Adj, Once, in-left, in-right, in-cases, in-turn, in-dec, cut-at, adj-left, adj-right, adj-cases, adj-init, adj-tail, adj-in-left, adj-in-right, once-turn}
-use Rattle.words.proofs.Tests.{holds, is-true, both, join, either, or-left, or-right, mem-in, in-mem, all-says, says-all, count-append, count-length, count-none, count-found}
+use Rattle.words.proofs.Lists.{Adj, Once, in-left, in-cases, in-turn, cut-at, adj-left, adj-right, adj-cases, adj-init, adj-tail, adj-in-left, adj-in-right, once-turn}
+use Rattle.words.proofs.Tests.{holds, is-true, either, or-left, or-right, mem-in, in-mem, all-says, says-all, count-append, count-length, count-none}
 use Rattle.rings.specs.Rings.{ring, around}
 use Rattle.rings.proofs.Around.{After, around-one, around-in, around-next, around-cut, around-turn}
 use Rattle.rings.proofs.Says.{Faces, entry-other, ring-once, name, follows-name}
 use Rattle.order.specs.Order.{twoPlaced, from, lead, rest, leads, oneRun, begins, run}
 use Rattle.order.proofs.Contour.{Rings, Run, Contour, cut, never-14}
-use Rattle.order.proofs.Tests.{lead-rest, lead-placed, rest-nil, leads-says, says-leads, from-out, from-at, begins-says, says-begins}
+use Rattle.order.proofs.Tests.{lead-rest, lead-placed, leads-says, says-leads, from-out, from-at, begins-says, says-begins}
 
 -- rings and triangles, as the contour's laws want them
 pub rings : (G : List (List ℕ)) → Faces G → Rings (After G)

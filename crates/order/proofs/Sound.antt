@@ -1,30 +1,30 @@
 -- The deciding theorem: lists and an order pass the tests of steps 7 to 14 exactly if they are a triangulated plane graph with a canonical
 -- order. Nothing tests that the graph is connected: it follows from the order.
-use mathlib.Core.Path.{_≡_, refl, sym, ap, _∙_, subst}
-use mathlib.Core.Logic.{_⊎_, inl, inr, _≢_}
+use mathlib.Core.Path.{_≡_, refl, sym}
+use mathlib.Core.Logic.{inl, inr, _≢_}
 use mathlib.Core.Bool.{Bool, true, false, _||_}
-use mathlib.Core.List.{List, [], _∷_, _++_, map}
-use Prim.Native.Nat.{ℕ, zero, suc, _+_, _*_, _-_, _≤_, _<_}
+use mathlib.Core.List.{List, [], _∷_, map}
+use Prim.Native.Nat.{ℕ, zero, suc, _*_, _-_, _≤_, _<_}
 use native.Mathlib.Omega.{arith}
-use native.Mathlib.Decide.{ℕ-discrete, decLt}
-use lib.Dec.{T, ltb, leb}
-use lib.ListN.{length, getD, take, drop, List·getD-map}
+use native.Mathlib.Decide.{decLt}
+use lib.Dec.{ltb, leb}
+use lib.ListN.{length, getD, take, List·getD-map}
 use lib.Seq.{take-suc, take-length}
 use borrow.Author.Tests.{leb-false, lt-leb, le-ltb}
 use Rattle.words.specs.Numbers.{sumOf}
 use Rattle.words.specs.Lists.{In, Different, mem}
-use Rattle.words.specs.Positions.{post, earlier, later, Earlier}
-use Rattle.words.proofs.Lists.{Once, in-left, in-right, in-cases, all-there, once-length}
-use Rattle.words.proofs.Tests.{holds, is-true, is-false, fails, mem-in, in-mem, place-in, in-place, different-once, once-different}
-use Rattle.words.proofs.Positions.{in-take, take-in, post-suc, earlier-in, post-new}
+use Rattle.words.specs.Positions.{post, earlier, later}
+use Rattle.words.proofs.Lists.{in-cases, all-there, once-length}
+use Rattle.words.proofs.Tests.{is-false, fails, mem-in, in-mem, place-in, in-place, different-once, once-different}
+use Rattle.words.proofs.Positions.{take-in, earlier-in, post-new}
 use Rattle.block.specs.Block.{badEntry, badDegree}
 use Rattle.rings.specs.Rings.{ring, around, ringRule, triangleRule, outerRule}
-use Rattle.rings.specs.Plane.{Follows, Reached, Plane}
+use Rattle.rings.specs.Plane.{Reached, Plane}
 use Rattle.rings.specs.Plane.Reached.{here, along}
-use Rattle.rings.proofs.Around.{After, follows-after, after-follows, around-in}
-use Rattle.rings.proofs.Says.{RingKept, Faces, ring-says, says-ring, triangle-says, says-triangle, outer-says, says-outer, faces-tested, faces-plane, entry-below, entry-other, entry-returned, ring-once}
+use Rattle.rings.proofs.Around.{After, follows-after, around-in}
+use Rattle.rings.proofs.Says.{Faces, says-ring, triangle-says, says-triangle, outer-says, says-outer, faces-tested, faces-plane, entry-below, entry-other, entry-returned, ring-once}
 use Rattle.order.specs.Order.{twoPlaced, oneRun, oneLater}
-use Rattle.order.specs.Canonical.{Two, OneRun, Canonical}
+use Rattle.order.specs.Canonical.{Two, Canonical}
 use Rattle.order.proofs.Tests.{two-says, says-two, run-says, says-run, later-says, says-later}
 use Rattle.order.proofs.Growth.{Names}
 
@@ -50,21 +50,21 @@ false-or : (x y : Bool) → x ≡ false → y ≡ false → x || y ≡ false
 false-or x y e f = rw (e, f)
 
 module _ (n : ℕ) (vs : List ℕ) where
-  pub entry-says : (k : ℕ) → badEntry n vs k ≡ false → (post vs k < n) × ¬ (In (post vs k) (earlier vs k))
+  pub position-says : (k : ℕ) → badEntry n vs k ≡ false → (post vs k < n) × ¬ (In (post vs k) (earlier vs k))
   unfolding badEntry
-  entry-says k e =
+  position-says k e =
       let t = or-false (leb n (post vs k)) (mem (earlier vs k) (post vs k)) e in
       (leb-false n (post vs k) (t .0), λ h. fails (mem (earlier vs k) (post vs k)) (t .1) (in-mem (earlier vs k) (post vs k) h))
 
-  pub says-entry : (k : ℕ) → post vs k < n → ¬ (In (post vs k) (earlier vs k)) → badEntry n vs k ≡ false
+  pub says-position : (k : ℕ) → post vs k < n → ¬ (In (post vs k) (earlier vs k)) → badEntry n vs k ≡ false
   unfolding badEntry
-  says-entry k h i =
+  says-position k h i =
       false-or (leb n (post vs k)) (mem (earlier vs k) (post vs k)) (lt-leb n (post vs k) h) (is-false (mem (earlier vs k) (post vs k)) (λ t. i (mem-in (earlier vs k) (post vs k) t)))
 
   module _ (good : (k : ℕ) → 1 ≤ k → k ≤ length vs → badEntry n vs k ≡ false) where
     at : (i : ℕ) → i < length vs → (getD vs i 0 < n) × ¬ (In (getD vs i 0) (take i vs))
     at i h =
-        let t = entry-says (suc i) (good (suc i) (omega arith) (omega arith)) in
+        let t = position-says (suc i) (good (suc i) (omega arith) (omega arith)) in
         let e : suc i - 1 ≡ i = omega arith in
         rw e at t
 
@@ -192,7 +192,7 @@ module _ (G : List (List ℕ)) (vs : List ℕ) where
       let n : length vs ≡ length G = C .all in
       record {
         all = n;
-        entries = λ k a b. says-entry (length G) vs k (C .below (post vs k) (place-in vs (k - 1) (omega arith))) (post-new vs (different-once vs (C .once)) k a (omega arith));
+        entries = λ k a b. says-position (length G) vs k (C .below (post vs k) (place-in vs (k - 1) (omega arith))) (post-new vs (different-once vs (C .once)) k a (omega arith));
         degrees = λ u h. let x = some-near (post vs 1) u P h in says-degree G u (degree-least G u F (x .0) (x .1)) (degree-most G u F h);
         total = P .entries;
         rings = λ u h. says-ring G u (F .kept u h);

@@ -1,6 +1,5 @@
 -- Starts of runs in a ring, counted: what a loop over its places finds, and that there is one run exactly if there is at most one start.
-use mathlib.Core.Path.{_≡_, refl, sym, ap, _∙_, subst}
-use mathlib.Core.Logic.{_⊎_, inl, inr}
+use mathlib.Core.Path.{_≡_, refl, sym, ap, _∙_}
 use mathlib.Core.Bool.{Bool, true, false, not, cond, _&&_, _||_}
 use mathlib.Core.List.{List, [], _∷_, _++_, append-assoc, append-nil}
 use Prim.Native.Nat.{ℕ, zero, suc, _+_, _≤_, _<_}
@@ -8,8 +7,8 @@ use native.Mathlib.Omega.{arith}
 use lib.Dec.{T, T-not, not-T}
 use lib.ListN.{length, getD, take, drop, length-append, take-append-drop}
 use lib.Seq.{drop-cons, drop-at}
-use Rattle.words.specs.First.{numbers, some}
-use Rattle.words.specs.Lists.{In, mem, anyOf, count}
+use Rattle.words.specs.First.{numbers}
+use Rattle.words.specs.Lists.{mem, anyOf, count}
 use Rattle.words.proofs.First.{some-true, some-found}
 use Rattle.words.proofs.Tests.{holds, is-true, either}
 use Rattle.rings.specs.Rings.{ring, around}

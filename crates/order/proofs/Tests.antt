@@ -1,19 +1,19 @@
 -- What the tests of the order say of a position, against the quantifiers of Canonical, both ways.
 use mathlib.Core.Path.{_≡_, refl, sym, ap, _∙_, subst}
-use mathlib.Core.Logic.{_⊎_, inl, inr}
-use mathlib.Core.Bool.{Bool, true, false, not, cond, _&&_, _||_}
-use mathlib.Core.List.{List, [], _∷_, _++_, append-assoc, append-nil}
-use Prim.Native.Nat.{ℕ, zero, suc, _+_, _≤_, _<_}
+use mathlib.Core.Logic.{inl, inr}
+use mathlib.Core.Bool.{Bool, true, false, not, cond, _||_}
+use mathlib.Core.List.{List, [], _∷_, _++_, append-nil}
+use Prim.Native.Nat.{ℕ, suc, _≤_, _<_}
 use native.Mathlib.Omega.{arith}
-use lib.Dec.{T, leb, eqb, leb→le, le→leb, T-not, not-T}
+use lib.Dec.{T, eqb, leb→le, le→leb}
 use lib.ListN.{length, getD, take, drop, length-append, take-append-drop}
 use lib.Seq.{take-at, drop-at}
-use Rattle.words.specs.First.{first, some}
-use Rattle.words.specs.Lists.{In, mem, allOf, anyOf, count}
-use Rattle.words.specs.Positions.{post, earlier, later, Earlier, Later}
+use Rattle.words.specs.First.{some}
+use Rattle.words.specs.Lists.{In, mem, allOf}
+use Rattle.words.specs.Positions.{post, earlier, later, Later}
 use Rattle.words.proofs.First.{some-true, some-found}
-use Rattle.words.proofs.Lists.{Once, in-left, in-right, in-cases, in-turn}
-use Rattle.words.proofs.Tests.{holds, is-true, both, join, mem-in, in-mem, any-says, says-any, none-says, says-none, count-found, count-two, two-count}
+use Rattle.words.proofs.Lists.{Once, in-right, in-turn}
+use Rattle.words.proofs.Tests.{holds, is-true, both, join, mem-in, in-mem, any-says, says-any, none-says, says-none, count-two, two-count}
 use Rattle.words.proofs.Positions.{earlier-in, in-earlier, later-in, in-later}
 use Rattle.rings.specs.Rings.{ring}
 use Rattle.order.specs.Order.{twoPlaced, from, lead, rest, leads, oneRun, oneLater, begins}

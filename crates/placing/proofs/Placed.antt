@@ -1,8 +1,8 @@
 -- What placing v does at a step: its run is p ∷ (M ++ q ∷ []), and the contour X ++ p ∷ (M ++ q ∷ Y) becomes X ++ p ∷ v ∷ q ∷ Y.
-use mathlib.Core.Path.{_≡_, refl, sym, ap, _∙_, subst}
-use mathlib.Core.Logic.{_⊎_, inl, inr}
-use mathlib.Core.Bool.{Bool, true, false, cond}
-use mathlib.Core.List.{List, [], _∷_, _++_, flatMap}
+use mathlib.Core.Path.{_≡_, refl, ap, _∙_, subst}
+use mathlib.Core.Logic.{inl, inr}
+use mathlib.Core.Bool.{cond}
+use mathlib.Core.List.{List, [], _∷_, flatMap}
 use Prim.Native.Nat.{ℕ, _+_, _-_, _/_}
 use lib.Dec.{eqb}
 use Rattle.words.specs.Lists.{In, mem, lastOf}

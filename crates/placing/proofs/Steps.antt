@@ -1,25 +1,25 @@
 -- Each stage has its contour, and the step to the next post keeps to it: its run is a stretch of the contour, and the post takes the place
 -- of the posts that the run covers. Whatever holds at stage 3 and is kept by each step holds at every stage.
 use mathlib.Core.Path.{_≡_, refl, sym, ap, _∙_, subst, subst⁻¹}
-use mathlib.Core.Logic.{_⊎_, inl, inr}
-use mathlib.Core.Bool.{Bool, true, false, cond}
+use mathlib.Core.Logic.{inl, inr}
 use mathlib.Core.List.{List, [], _∷_, _++_, append-assoc, append-nil}
 use Prim.Native.Nat.{ℕ, zero, suc, _+_, _-_, _≤_, _<_}
 use native.Mathlib.Omega.{arith}
 use native.Mathlib.Numerals.{add-one}
-use lib.Dec.{eqb}
-use lib.ListN.{length, getD, take, drop, length-append}
+use lib.ListN.{length, getD, take, length-append}
 use lib.Seq.{take-suc, take-at, getD-take, length-take-le}
-use Rattle.words.specs.Lists.{In, lastOf}
+use Rattle.words.specs.Lists.{In}
 use Rattle.words.specs.Positions.{post, earlier}
-use Rattle.words.proofs.Lists.{Once, once-split, last-append}
+use Rattle.words.proofs.Lists.{Adj, Once, in-cases, once-split, last-append}
 use Rattle.words.proofs.Tests.{eqb-same, eqb-other}
 use Rattle.words.proofs.Positions.{post-new, earlier-next}
 use Rattle.rings.specs.Rings.{ring}
+use Rattle.rings.specs.Plane.{Wire}
 use Rattle.rings.proofs.Around.{After}
+use Rattle.rings.proofs.Says.{entry-other, entry-returned}
 use Rattle.order.specs.Order.{run}
-use Rattle.order.proofs.Contour.{Contour}
-use Rattle.order.proofs.Growth.{Grown, grow-at, start-at, run-near, run-whole, take-two}
+use Rattle.order.proofs.Contour.{Run, Contour}
+use Rattle.order.proofs.Growth.{Grown, grow-at, start-at, run-near, run-whole}
 use Rattle.order.proofs.Sound.{Passes, passes-names, passes-faces, passes-outer}
 use Rattle.placing.specs.Stages.{Stage, third, upTo, onFrom, inner, placeOver, place, placeAll, stage}
 
@@ -51,6 +51,8 @@ pub inner-run : (p : ℕ) (M : List ℕ) (q : ℕ) → inner (p ∷ (M ++ q ∷ 
 inner-run p M q = take-at M (q ∷ []) (suc (length (M ++ q ∷ [])) - 2) (omega (arith, length-append M (q ∷ [])))
 
 -- ---- the step
+-- From stage t to v, a new post: its run w_p to w_q is p ∷ (M ++ q ∷ []), a stretch of the contour, and v takes the place of M there. The run
+-- is the neighbours of v that are placed. `old` and `now` are the contour's invariant before and after, from v1 to v2.
 pub record Step (G : List (List ℕ)) (t : Stage) (v : ℕ) : Type 0 where
   pub X : List ℕ
   pub M : List ℕ
@@ -65,10 +67,15 @@ pub record Step (G : List (List ℕ)) (t : Stage) (v : ℕ) : Type 0 where
   pub on-placed : (a : ℕ) → In a (t .contour) → In a (t .placed)
   pub run-all : (a : ℕ) → In a (ring G v) → In a (t .placed) → In a (p ∷ (M ++ q ∷ []))
   pub run-near : (a : ℕ) → In a (p ∷ (M ++ q ∷ [])) → In a (ring G v)
+  pub run-back : (a : ℕ) → In v (ring G a) → In a (t .placed) → In a (p ∷ (M ++ q ∷ []))
+  pub not-self : ¬ (In v (ring G v))
+  pub the-run : Run (After G) (t .placed) v p M q
+  pub no-turn : ¬ (Adj (p ∷ (M ++ q ∷ [])) (post (t .placed) 2) (post (t .placed) 1))
   pub old : Contour (After G) (post (t .placed) 1) (post (t .placed) 2) (t .placed) (t .contour)
   pub now : Contour (After G) (post (t .placed) 1) (post (t .placed) 2) (place G t v .placed) (place G t v .contour)
 
-place-contour : (G : List (List ℕ)) (t : Stage) (v : ℕ) (X M Y : List ℕ) (p q : ℕ) → run G (t .placed) v ≡ p ∷ (M ++ q ∷ []) → t .contour ≡ X ++ p ∷ (M ++ q ∷ Y) → Once (t .contour) → place G t v .contour ≡ X ++ p ∷ v ∷ q ∷ Y
+place-contour : (G : List (List ℕ)) (t : Stage) (v : ℕ) (X M Y : List ℕ) (p q : ℕ) → run G (t .placed) v ≡ p ∷ (M ++ q ∷ []) → t .contour ≡ X ++ p ∷ (M ++ q ∷ Y)
+    → Once (t .contour) → place G t v .contour ≡ X ++ p ∷ v ∷ q ∷ Y
 unfolding place placeOver
 place-contour G t v X M Y p q r b o =
     let c = up-to-run X p M q Y (rw b at o) in
@@ -124,6 +131,7 @@ module _ (G : List (List ℕ)) (vs : List ℕ) where
   stage-placed k h i = stage-has G (take k vs) (let l = length-take-le k vs i in omega arith)
 
 -- ---- an order that passes the tests
+-- from 3 on, a number at a time
 from-three : (Q : ℕ → Type 0) (n : ℕ) → Q 3 → ((k : ℕ) → 3 ≤ k → k < n → Q k → Q (k + 1)) → (k : ℕ) → 3 ≤ k → k ≤ n → Q k
 from-three Q n b f zero h i = absurd (omega arith)
 from-three Q n b f (suc zero) h i = absurd (omega arith)
@@ -131,6 +139,7 @@ from-three Q n b f (suc (suc zero)) h i = absurd (omega arith)
 from-three Q n b f (suc (suc (suc zero))) h i = b
 from-three Q n b f (suc (suc (suc (suc k)))) h i = rw add-one at (f (suc (suc (suc k))) (omega arith) i (from-three Q n b f (suc (suc (suc k))) (omega arith) (omega arith)))
 
+-- with M between them v1 and v2 are the whole contour v1, v2: v3 comes between them
 two-long : (X M Y : List ℕ) (v1 v2 v3 p q : ℕ) → v1 ∷ v2 ∷ [] ≡ X ++ p ∷ (M ++ q ∷ Y) → X ++ p ∷ v3 ∷ q ∷ Y ≡ v1 ∷ v3 ∷ v2 ∷ []
 two-long [] [] [] v1 v2 v3 p q e = cc e
 two-long [] [] (y ∷ Y) v1 v2 v3 p q e = absurd (omega (arith, ap length e))
@@ -157,6 +166,8 @@ module _ (G : List (List ℕ)) (vs : List ℕ) (A : Passes G vs) where
 
       go : Grown G (post vs 1) (post vs 2) (t .placed) (t .contour) v → ¬ (In v (t .placed)) → post (t .placed) 1 ≡ post vs 1 → post (t .placed) 2 ≡ post vs 2 → Step G t v
       go g new e1 e2 =
+          let F = passes-faces G vs A in
+          let all = run-whole G F (post vs 1) (post vs 2) (post vs (length G)) (passes-outer G vs A) (t .placed) (t .contour) v g new in
           let a = place-contour G t v (g .X) (g .M) (g .Y) (g .p) (g .q) (g .run-is) (g .before) (C .once) in
           record {
             X = g .X;
@@ -170,8 +181,12 @@ module _ (G : List (List ℕ)) (vs : List ℕ) (A : Passes G vs) where
             new = new;
             once = C .once;
             on-placed = C .placed;
-            run-all = run-whole G (passes-faces G vs A) (post vs 1) (post vs 2) (post vs (length G)) (passes-outer G vs A) (t .placed) (t .contour) v g new;
+            run-all = all;
             run-near = λ a j. run-near G (t .placed) v a (rw (g .run-is) j);
+            run-back = λ a j. all a (entry-returned G F a v j);
+            not-self = λ j. entry-other G F v v j refl;
+            the-run = g .the-run;
+            no-turn = rw (e1, e2) (g .no-turn);
             old = at-ends G _ _ (post vs 1) (post vs 2) (t .placed) (t .contour) e1 e2 C;
             now = at-ends G _ _ (post vs 1) (post vs 2) (place G t v .placed) (place G t v .contour) e1 e2
                 (subst⁻¹ (λ (l : List ℕ). Contour (After G) (post vs 1) (post vs 2) l (place G t v .contour)) (place-placed G t v)
@@ -230,3 +245,20 @@ module _ (G : List (List ℕ)) (vs : List ℕ) (A : Passes G vs) where
       let n : length vs ≡ length G = A .all in
       from-three (λ k. P (stage G (take k vs))) (length vs) (rw (stage-third G vs (omega arith)) base)
       (λ k h i r. subst⁻¹ P (stage-next G vs k h i) (f (stage G (take k vs)) (post vs (k + 1)) (step-at k h (omega arith)) r)) k h i
+
+-- ---- wires: after the step a wire is an old one, or joins v and a post of its run
+module _ (G : List (List ℕ)) (t : Stage) (v : ℕ) (s : Step G t v) where
+  pub wire-cases : {C : Type 0} (a b : ℕ) → Wire G (place G t v .placed) a b → (Wire G (t .placed) a b → C)
+      → (a ≡ v → In b (s .p ∷ (s .M ++ s .q ∷ [])) → C) → (b ≡ v → In a (s .p ∷ (s .M ++ s .q ∷ [])) → C) → C
+  wire-cases {C} a b w f g h =
+      in-cases a (t .placed) (v ∷ [])
+      (λ ia. in-cases b (t .placed) (v ∷ []) (λ ib. f (ia, ib, w .2)) (λ eb. let e = only b eb in h e (s .run-back a (rw e at (w .2)) ia)) (old b (w .1)))
+      (λ ea. let e = only a ea in in-cases b (t .placed) (v ∷ []) (λ ib. g e (s .run-all b (rw e at (w .2)) ib)) (λ eb. absurd (s .not-self (rw (e, only b eb) at (w .2)))) (old b (w .1)))
+      (old a (w .0))
+    where
+      only : (u : ℕ) → In u (v ∷ []) → u ≡ v
+      only u (inl e) = e
+      only u (inr i) = absurd i
+
+      old : (u : ℕ) → In u (place G t v .placed) → In u (t .placed ++ v ∷ [])
+      old u i = subst (In u) (place-placed G t v) i

@@ -1,13 +1,12 @@
 -- Lists read as rings: what follows what, from any place on.
-use mathlib.Core.Path.{_≡_, refl, sym, ap, _∙_, subst, subst⁻¹}
-use mathlib.Core.Logic.{_⊎_, inl, inr}
-use mathlib.Core.Bool.{Bool, true, false, not, cond, _&&_, _||_}
+use mathlib.Core.Path.{_≡_, refl, ap, subst, subst⁻¹}
+use mathlib.Core.Logic.{inl, inr}
+use mathlib.Core.Bool.{Bool, _&&_}
 use mathlib.Core.List.{List, [], _∷_, _++_, append-assoc, append-nil}
-use Prim.Native.Nat.{ℕ, zero, suc, _+_, _≤_, _<_}
+use Prim.Native.Nat.{ℕ}
 use lib.Dec.{T, eqb, eqb→eq, eqb-refl}
-use lib.ListN.{length, getD, take, drop}
 use Rattle.words.specs.Lists.{In}
-use Rattle.words.proofs.Lists.{Head, Adj, Once, in-cases, cut-at, adj-init, adj-tail, adj-one, adj-next, adj-turn, adj-right, adj-in-left}
+use Rattle.words.proofs.Lists.{Adj, Once, in-cases, adj-init, adj-tail, adj-one, adj-next, adj-turn, adj-right}
 use Rattle.words.proofs.Tests.{both, join, either, or-left, or-right}
 use Rattle.rings.specs.Rings.{ring, around, next, allNext}
 use Rattle.rings.specs.Plane.{Follows}

@@ -1,15 +1,15 @@
 -- What the tests of rings, triangles and the outer triangle say, and the other way round.
-use mathlib.Core.Path.{_≡_, refl, sym, ap, _∙_}
-use mathlib.Core.Logic.{_⊎_, inl, inr, _≢_}
-use mathlib.Core.Bool.{Bool, true, false, not, _&&_}
-use mathlib.Core.List.{List, [], _∷_, _++_}
-use Prim.Native.Nat.{ℕ, _≤_, _<_}
+use mathlib.Core.Path.{_≡_}
+use mathlib.Core.Logic.{_≢_}
+use mathlib.Core.Bool.{true, not}
+use mathlib.Core.List.{List, []}
+use Prim.Native.Nat.{ℕ, _<_}
 use native.Mathlib.Omega.{arith}
 use native.Mathlib.Decide.{decLt}
 use lib.Dec.{T, ltb, eqb, eqb→eq, eqb-refl, ltb→lt, lt→ltb, T-not, not-T}
-use lib.ListN.{length, getD, List·getD-eq-default}
-use Rattle.words.specs.Lists.{In, Different, mem, allOf, count}
-use Rattle.words.proofs.Lists.{Adj, Once}
+use lib.ListN.{length, List·getD-eq-default}
+use Rattle.words.specs.Lists.{In, Different, mem, count}
+use Rattle.words.proofs.Lists.{Once}
 use Rattle.words.proofs.Tests.{holds, is-true, both, join, mem-in, in-mem, all-says, says-all, once-count, count-once, different-once, once-different}
 use Rattle.rings.specs.Rings.{ring, around, follows, entryRule, ringRule, triangleRule, outerRule}
 use Rattle.rings.specs.Plane.{Follows, Plane}

@@ -6,7 +6,7 @@ use native.Mathlib.Omega.{arith}
 use native.Mathlib.Decide.{ℕ-discrete}
 use lib.ListN.{length, length-append}
 use mathlib.Core.List.{List, [], _∷_, _++_, append-assoc}
-use Rattle.words.specs.Lists.{In, Different, lastOf}
+use Rattle.words.specs.Lists.{In, lastOf}
 
 -- b is the first of the list
 abbrev pub Head : List ℕ → ℕ → Type 0

@@ -1,14 +1,14 @@
 -- Earlier and later positions of an order, as lists and by positions.
 use mathlib.Core.Path.{_≡_, refl, sym, ap, _∙_}
-use mathlib.Core.Logic.{_⊎_, inl, inr}
-use mathlib.Core.List.{List, [], _∷_, _++_, append-assoc}
+use mathlib.Core.Logic.{inl, inr}
+use mathlib.Core.List.{List, [], _∷_, _++_}
 use Prim.Native.Nat.{ℕ, zero, suc, _+_, _-_, _≤_, _<_}
 use native.Mathlib.Omega.{arith}
-use lib.ListN.{length, getD, take, drop, length-append, length-drop, take-append-drop}
+use lib.ListN.{length, getD, take, drop, length-drop, take-append-drop}
 use lib.Seq.{getD-drop, take-suc, drop-cons}
-use Rattle.words.specs.Lists.{In, lastOf}
+use Rattle.words.specs.Lists.{In}
 use Rattle.words.specs.Positions.{post, earlier, later, Earlier, Later}
-use Rattle.words.proofs.Lists.{Once, in-left, in-right, in-cases, once-split, last-append}
+use Rattle.words.proofs.Lists.{Once, in-cases, once-split}
 use Rattle.words.proofs.Tests.{place-in, in-place}
 
 pub in-take : (n : ℕ) (l : List ℕ) (a : ℕ) → In a (take n l) → (i : ℕ) × (i < n) × (i < length l) × (getD l i 0 ≡ a)
