@@ -6,3 +6,5 @@ pub mod Starts
 pub mod Found
 pub mod Growth
 pub mod Sound
+pub mod Ranked
+pub mod Rule

@@ -14,14 +14,9 @@ use Rattle.words.proofs.Tests.{holds, is-true, either}
 use Rattle.rings.specs.Rings.{ring, around}
 use Rattle.rings.proofs.Around.{around-cut}
 use Rattle.rings.proofs.Places.{after, around-at}
+use Rattle.order.specs.Held.{starts}
 use Rattle.order.specs.Order.{from, rest, leads, oneRun}
 use Rattle.order.proofs.Tests.{from-at, from-start}
-
--- how often a placed entry stands right after a waiting one
-unfoldable pub starts : List ℕ → List ℕ → ℕ
-starts placed [] = 0
-starts placed (x ∷ []) = 0
-starts placed (x ∷ y ∷ l) = cond (not (mem placed x) && mem placed y) 1 0 + starts placed (y ∷ l)
 
 module _ (placed : List ℕ) where
   starts-cut : (X : List ℕ) (q : ℕ) (Z : List ℕ) → starts placed (X ++ q ∷ Z) ≡ starts placed (X ++ q ∷ []) + starts placed (q ∷ Z)
@@ -157,7 +152,7 @@ module _ (placed l : List ℕ) where
       go [] = refl
       go (x ∷ l) = refl
 
-  starts-last : (i : ℕ) → length l ≡ i → starts placed (drop i (around l)) ≡ 0
+  pub starts-last : (i : ℕ) → length l ≡ i → starts placed (drop i (around l)) ≡ 0
   unfolding around
   starts-last i h = rw (drop-at l (take 1 l) i h) starts-first
 

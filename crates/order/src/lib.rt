@@ -1,1 +1,128 @@
-// The order of fitting: runs, and the rule at each position. specs/ has the definitions.
+// The order of fitting: the position of each name, and the rule at each position (steps 12 to 14).
+ghost use mathlib.Core.Path.{_≡_};
+ghost use mathlib.Core.Bool.{Bool, true, false, not, cond, _&&_};
+ghost use Prim.Native.Nat.{ℕ, _+_, _*_, _-_, _≤_, _<_};
+ghost use lib.Dec.{ltb};
+ghost use lib.ListN.{length, getD};
+ghost use lib.Seq.{slice};
+ghost use Rattle.words.specs.Lists.{mem, anyOf, count};
+ghost use Rattle.words.specs.Positions.{post, earlier, later};
+ghost use Rattle.block.specs.Layout.{limit};
+ghost use Rattle.block.specs.Block.{badEntry};
+ghost use Rattle.rings.specs.Rings.{around, ringRule};
+ghost use Rattle.rings.specs.Held.{held, Cuts};
+ghost use Rattle.order.specs.Order.{twoPlaced, oneRun, oneLater};
+ghost use Rattle.order.specs.Held.{Ranked, Names, starts, fitOf};
+
+// What the order's rule finds in a position: nothing amiss; fewer than two earlier neighbours; they aren't one run; no later neighbour.
+pub enum Fit {
+    Good,
+    Few,
+    Broken,
+    Last,
+}
+
+// rank[a] becomes the position of the name a.
+pub fn ranks(vs: &[u16], rank: &mut [u16])
+    requires { ⌜ (length (now vs) ≤ limit) × (length (now vs) ≤ length (now rank)) × ((k : ℕ) → 1 ≤ k → k ≤ length (now vs) → badEntry (length (now vs)) (now vs) k ≡ false) ⌝ }
+    ensures { λ r. ⌜ Ranked (now (vs .entry)) (now (rank .exit)) ⌝ }
+{
+    let mut k = 1;
+    while k <= vs.len() {
+        let a = words::number(vs[k - 1]);
+        rank[a] = k as u16;
+        k += 1;
+    }
+}
+
+fn one_if(b: bool) -> usize
+    ensures { λ r. ⌜ (r ≡ cond b 1 0) × (r ≤ 1) ⌝ }
+{
+    if b { 1 } else { 0 }
+}
+
+// a stands in a position before k.
+pub fn is_before(rank: &[u16], a: u16, k: usize) -> bool
+    requires { ⌜ a < length (now rank) ⌝ }
+    ensures { λ r. ⌜ r ≡ ltb (getD (now (rank .entry)) a 0) k ⌝ }
+{
+    let i = words::number(a);
+    words::number(rank[i]) < k
+}
+
+// How many of the entries from b to e stand in positions before k.
+pub fn count_before(ents: &[u16], b: usize, e: usize, vs: &[u16], rank: &[u16], k: usize) -> usize
+    requires { ⌜ (b ≤ e) × (e ≤ length (now ents)) × Ranked (now vs) (now rank) × Names (now ents) b e (length (now vs)) × (k ≤ length (now vs)) ⌝ }
+    ensures { λ r. ⌜ r ≡ count (mem (earlier (now (vs .entry)) k)) (slice b e (now (ents .entry))) ⌝ }
+{
+    let mut c = 0;
+    let mut i = b;
+    while i < e {
+        c += one_if(is_before(rank, ents[i], k));
+        i += 1;
+    }
+    c
+}
+
+// At place i stands one that is not before position k, and after it one that is.
+fn is_start(ents: &[u16], b: usize, e: usize, i: usize, vs: &[u16], rank: &[u16], k: usize) -> bool
+    requires { ⌜ (b ≤ i) × (i < e) × (e ≤ length (now ents)) × Ranked (now vs) (now rank) × Names (now ents) b e (length (now vs)) × (k ≤ length (now vs)) ⌝ }
+    ensures { λ r. ⌜ r ≡ (not (mem (earlier (now (vs .entry)) k) (getD (around (slice b e (now (ents .entry)))) (i - b) 0)) && mem (earlier (now (vs .entry)) k) (getD (around (slice b e (now (ents .entry)))) (i - b + 1) 0)) ⌝ }
+{
+    if is_before(rank, ents[i], k) {
+        return false;
+    }
+    is_before(rank, rings::after(ents, b, e, i), k)
+}
+
+// How many runs of earlier neighbours begin in the list from b to e, read around.
+fn count_starts(ents: &[u16], b: usize, e: usize, vs: &[u16], rank: &[u16], k: usize) -> usize
+    requires { ⌜ (b ≤ e) × (e ≤ length (now ents)) × Ranked (now vs) (now rank) × Names (now ents) b e (length (now vs)) × (k ≤ length (now vs)) ⌝ }
+    ensures { λ r. ⌜ r ≡ starts (earlier (now (vs .entry)) k) (around (slice b e (now (ents .entry)))) ⌝ }
+{
+    let mut c = 0;
+    let mut i = b;
+    while i < e {
+        c += one_if(is_start(ents, b, e, i, vs, rank, k));
+        i += 1;
+    }
+    c
+}
+
+// One of the entries from b to e stands in a position after k.
+fn some_after(ents: &[u16], b: usize, e: usize, vs: &[u16], rank: &[u16], k: usize) -> bool
+    requires { ⌜ (b ≤ e) × (e ≤ length (now ents)) × Ranked (now vs) (now rank) × Names (now ents) b e (length (now vs)) × (k ≤ length (now vs)) × (length (now vs) ≤ limit) ⌝ }
+    ensures { λ r. ⌜ r ≡ anyOf (mem (later (now (vs .entry)) k)) (slice b e (now (ents .entry))) ⌝ }
+{
+    let mut i = b;
+    while i < e {
+        if !is_before(rank, ents[i], k + 1) {
+            return true;
+        }
+        i += 1;
+    }
+    false
+}
+
+// What the order's rule finds in position k.
+pub fn rule_at(ents: &[u16], at: &[u16], vs: &[u16], rank: &[u16], k: usize) -> Fit
+    requires { ⌜ Cuts (now at) (now ents) × (length (now at) ≡ length (now vs) + 1) × Ranked (now vs) (now rank) × ((u : ℕ) → u < length (now vs) → ringRule (held (now at) (now ents)) u ≡ true) × (1 ≤ k) × (k ≤ length (now vs)) × (length (now vs) ≤ limit) × (post (now vs) k < length (now vs)) ⌝ }
+    ensures { λ r. ⌜ r ≡ fitOf (twoPlaced (held (now (at .entry)) (now (ents .entry))) (earlier (now (vs .entry)) k) (post (now (vs .entry)) k)) (oneRun (held (now (at .entry)) (now (ents .entry))) (earlier (now (vs .entry)) k) (post (now (vs .entry)) k)) (ltb k (length (now (vs .entry)))) (oneLater (held (now (at .entry)) (now (ents .entry))) (later (now (vs .entry)) k) (post (now (vs .entry)) k)) ⌝ }
+{
+    let v = words::number(vs[k - 1]);
+    let b = words::number(at[v]);
+    let e = words::number(at[v + 1]);
+    if count_before(ents, b, e, vs, rank, k) < 2 {
+        return Fit::Few;
+    }
+    if 1 < count_starts(ents, b, e, vs, rank, k) {
+        return Fit::Broken;
+    }
+    if vs.len() <= k {
+        return Fit::Good;
+    }
+    if some_after(ents, b, e, vs, rank, k) {
+        return Fit::Good;
+    }
+    Fit::Last
+}

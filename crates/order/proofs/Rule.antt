@@ -1,0 +1,71 @@
+-- The rule at a position, by what the code counted in the ring of the post there.
+use Prim.Native.Nat.{ℕ, _+_, _-_, _≤_, _<_}
+use mathlib.Core.Path.{_≡_, refl, sym, ap, _∙_}
+use mathlib.Core.Bool.{Bool, true, false, cond}
+use mathlib.Core.List.{List}
+use native.Mathlib.Omega.{arith}
+use lib.Dec.{leb, ltb}
+use lib.ListN.{length, getD}
+use lib.Seq.{slice, length-slice}
+use borrow.Author.Tests.{lt-ltb, le-ltb, le-leb, lt-leb}
+use Rattle.words.specs.Lists.{In, mem, anyOf, count}
+use Rattle.words.specs.Positions.{post, earlier, later}
+use Rattle.words.proofs.Tests.{is-true, is-false, holds, count-length, place-in}
+use Rattle.rings.specs.Rings.{ring, around, ringRule}
+use Rattle.rings.specs.Held.{held, Cuts}
+use Rattle.rings.proofs.Held.{held-length, held-part}
+use Rattle.rings.proofs.Turns.{part-at}
+use Rattle.rings.proofs.Says.{ring-says}
+use Rattle.order.specs.Order.{twoPlaced, oneRun, oneLater}
+use Rattle.order.specs.Held.{Names, starts, fitOf}
+use Rattle.order.specs.declared.Fit.{Fit}
+use Rattle.order.specs.declared.Fit.the-variants.{Good, Few, Broken, Last}
+use Rattle.order.proofs.Starts.{one-run-starts, starts-one-run}
+
+-- the ring of v is the entries from b to e
+module _ (at ents : List ℕ) (v b e n : ℕ) (h : v < n) (size : length at ≡ n + 1) (eb : b ≡ getD at v 0) (ee : e ≡ getD at (v + 1) 0) where
+  is : ring (held at ents) v ≡ slice b e ents
+  is = held-part at ents v b e (omega arith) eb ee
+
+  -- its entries are names below n
+  pub ring-names : b ≤ e → e ≤ length ents → ringRule (held at ents) v ≡ true → Names ents b e n
+  ring-names le m t i f g =
+      let a : In (getD (slice b e ents) (i - b) 0) (slice b e ents) = place-in (slice b e ents) (i - b) (omega (arith, length-slice b e ents m)) in
+      let k : In (getD ents i 0) (ring (held at ents) v) = rw is (rw (part-at ents b e i f g m) at a) in
+      omega (arith, ring-says (held at ents) v t .below (getD ents i 0) k, held-length at ents)
+
+  module _ (P L : List ℕ) (k m c : ℕ) (ec : c ≡ count (mem P) (slice b e ents)) where
+    two-is : twoPlaced (held at ents) P v ≡ leb 2 c
+    unfolding twoPlaced
+    two-is = rw (is, ec) refl
+
+    pub rule-few : c < 2 → Few ≡ fitOf (twoPlaced (held at ents) P v) (oneRun (held at ents) P v) (ltb k m) (oneLater (held at ents) L v)
+    rule-few few = rw (two-is, lt-leb 2 c few) refl
+
+    module _ (enough : 2 ≤ c) (s : ℕ) (es : s ≡ starts P (around (slice b e ents))) where
+      filled : 0 < length (ring (held at ents) v)
+      filled = rw is (omega (arith, count-length (mem P) (slice b e ents)))
+
+      one-yes : s ≤ 1 → oneRun (held at ents) P v ≡ true
+      one-yes few = starts-one-run (held at ents) P v filled (rw (is, ← es) few)
+
+      one-no : 1 < s → oneRun (held at ents) P v ≡ false
+      one-no more = is-false (oneRun (held at ents) P v) (λ t. omega (arith, es, rw is at (one-run-starts (held at ents) P v (is-true (oneRun (held at ents) P v) t))))
+
+      pub rule-broken : 1 < s → Broken ≡ fitOf (twoPlaced (held at ents) P v) (oneRun (held at ents) P v) (ltb k m) (oneLater (held at ents) L v)
+      rule-broken more = rw (two-is, le-leb 2 c enough, one-no more) refl
+
+      module _ (whole : s ≤ 1) where
+        pub rule-end : m ≤ k → Good ≡ fitOf (twoPlaced (held at ents) P v) (oneRun (held at ents) P v) (ltb k m) (oneLater (held at ents) L v)
+        rule-end j = rw (two-is, le-leb 2 c enough, one-yes whole, le-ltb k m j) refl
+
+        module _ (below : k < m) (r : Bool) (er : r ≡ anyOf (mem L) (slice b e ents)) where
+          late-is : oneLater (held at ents) L v ≡ r
+          unfolding oneLater
+          late-is = rw is (sym er)
+
+          pub rule-good : r ≡ true → Good ≡ fitOf (twoPlaced (held at ents) P v) (oneRun (held at ents) P v) (ltb k m) (oneLater (held at ents) L v)
+          rule-good t = rw (two-is, le-leb 2 c enough, one-yes whole, lt-ltb k m below, late-is, t) refl
+
+          pub rule-last : r ≡ false → Last ≡ fitOf (twoPlaced (held at ents) P v) (oneRun (held at ents) P v) (ltb k m) (oneLater (held at ents) L v)
+          rule-last t = rw (two-is, le-leb 2 c enough, one-yes whole, lt-ltb k m below, late-is, t) refl

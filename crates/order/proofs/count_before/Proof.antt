@@ -1,0 +1,89 @@
+use Rattle.order.proofs.count_before.Statement.{statement}
+use Rattle.order.proofs.count_before.Tie as tie
+use Rattle.order.proofs.count_before.Reads as reads
+use Rattle.order.proofs.count_before.Lts as lts
+use Rattle.order.proofs.is_before.Reads as is-before-reads
+use Rattle.order.proofs.one_if.Reads as one-if-reads
+use native.Mathlib.Omega.{arith}
+use Prim.Native.Nat.{ℕ, _≤_, _+_, _-_, _<_}
+use mathlib.Core.Path.{_≡_, refl, sym, ap, _∙_}
+use mathlib.Core.Bool.{Bool, cond}
+use lib.ListN.{length, getD}
+use lib.Seq.{slice}
+use Rattle.words.specs.Lists.{mem, count}
+use Rattle.words.specs.Positions.{earlier}
+use Rattle.rings.proofs.Turns.{count-step, count-end}
+use Rattle.order.proofs.Ranked.{before-says}
+use borrow.Author.Needs.{needs}
+
+abbrev Inv-loop : tie.InvT-loop
+Inv-loop ents b e vs rank k c₀ i₀ c i = (b ≤ i) × (i ≤ e) × (c + count (mem (earlier vs k)) (slice i e ents) ≡ count (mem (earlier vs k)) (slice b e ents)) × (c ≤ i)
+
+abbrev μ-loop : tie.MeasureT-loop
+μ-loop ents b e vs rank k c₀ i₀ c i = e - i
+
+-- src/lib.rt:60:5
+loop-holds : tie.Need-loop-holds Inv-loop μ-loop
+loop-holds c = search needs
+
+-- src/lib.rt:61:37
+mul-is-before : tie.Need-mul-is-before Inv-loop μ-loop
+mul-is-before c = search needs
+
+-- src/lib.rt:61:37
+shared-slice-read-is-before : tie.Need-shared-slice-read-is-before Inv-loop μ-loop
+shared-slice-read-is-before c = search needs
+
+-- src/lib.rt:61:21
+is-before-requires : tie.Need-is-before-requires Inv-loop μ-loop
+is-before-requires c κs = omega (arith, c .before .before .before .before .before .before .pre .3 (c .before .before .loop .i) (omega arith) (omega arith), c .before .before .before .before .before .before .pre .2 .room)
+
+-- src/lib.rt:61:14
+one-if-requires : tie.Need-one-if-requires Inv-loop μ-loop
+one-if-requires c κs = search needs
+
+-- src/lib.rt:61:9
+add-c : tie.Need-add-c Inv-loop μ-loop
+add-c c = search needs
+
+-- src/lib.rt:62:9
+add-i : tie.Need-add-i Inv-loop μ-loop
+add-i c = search needs
+
+-- src/lib.rt:60:5
+loop-less : tie.Need-loop-less Inv-loop μ-loop
+loop-less c = search needs
+
+-- src/lib.rt:60:5
+loop-again : tie.Need-loop-again Inv-loop μ-loop
+loop-again c =
+    let v = c .before .before .before .before .loop in
+    let a = c .before .before .before .before .before .before .before .before .args in
+    let s : c .before .is-before .result ≡ mem (earlier (a .vs .now) (a .k)) (getD (a .ents .now) (v .i) 0) = c .before .is-before .ensures ∙ before-says (a .vs .now) (a .rank .now) (c .before .before .before .before .before .before .before .before .pre .2) (getD (a .ents .now) (v .i) 0) (c .before .before .before .before .before .before .before .before .pre .3 (v .i) (omega arith) (omega arith)) (a .k) (c .before .before .before .before .before .before .before .before .pre .4) in
+    omega (arith, count-step (a .ents .now) (v .i) (a .e) (omega arith) (omega arith) (mem (earlier (a .vs .now) (a .k))), c .one-if .ensures, ap {B = ℕ} (λ (z : Bool). cond z 1 0) s)
+
+-- src/lib.rt:54:1
+returns : tie.Need-returns Inv-loop μ-loop
+returns c =
+    let v = c .before .loop in
+    let a = c .before .before .before .before .before .args in
+    let q : v .i ≡ a .e = omega arith in
+    let z : count (mem (earlier (a .vs .now) (a .k))) (slice (v .i) (a .e) (a .ents .now)) ≡ 0 = rw q (count-end (a .ents .now) (a .e) (mem (earlier (a .vs .now) (a .k)))) in
+    omega arith
+
+pub count-before-spec : {M : Type 1} → statement M
+count-before-spec =
+    tie.close
+    (tie.spec
+    Inv-loop
+    μ-loop
+    loop-holds
+    mul-is-before
+    shared-slice-read-is-before
+    is-before-requires
+    one-if-requires
+    add-c
+    add-i
+    loop-less
+    loop-again
+    returns)

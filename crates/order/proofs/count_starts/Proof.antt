@@ -1,0 +1,81 @@
+use Rattle.order.proofs.count_starts.Statement.{statement}
+use Rattle.order.proofs.count_starts.Tie as tie
+use Rattle.order.proofs.count_starts.Reads as reads
+use Rattle.order.proofs.count_starts.Lts as lts
+use Rattle.order.proofs.is_start.Reads as is-start-reads
+use Rattle.order.proofs.one_if.Reads as one-if-reads
+use native.Mathlib.Omega.{arith}
+use Prim.Native.Nat.{ℕ, _≤_, _+_, _-_, _<_}
+use mathlib.Core.Path.{_≡_, refl, sym, ap, _∙_}
+use mathlib.Core.Bool.{Bool, cond}
+use lib.ListN.{length, getD, drop}
+use lib.Seq.{slice}
+use Rattle.words.specs.Positions.{earlier}
+use Rattle.rings.specs.Rings.{around}
+use Rattle.rings.proofs.Turns.{around-start}
+use Rattle.order.specs.Held.{starts}
+use Rattle.order.proofs.Ranked.{starts-turn, starts-done}
+use borrow.Author.Needs.{needs}
+
+abbrev Inv-loop : tie.InvT-loop
+Inv-loop ents b e vs rank k c₀ i₀ c i = (b ≤ i) × (i ≤ e) × (c + starts (earlier vs k) (drop (i - b) (around (slice b e ents))) ≡ starts (earlier vs k) (around (slice b e ents))) × (c ≤ i)
+
+abbrev μ-loop : tie.MeasureT-loop
+μ-loop ents b e vs rank k c₀ i₀ c i = e - i
+
+-- src/lib.rt:85:5
+loop-holds : tie.Need-loop-holds Inv-loop μ-loop
+loop-holds c =
+    let a = c .before .before .before .args in
+    (search needs, search needs, omega (arith, around-start (a .ents .now) (a .b) (a .e) (omega arith) (omega arith) (starts (earlier (a .vs .now) (a .k)))), search needs)
+
+-- src/lib.rt:86:21
+is-start-requires : tie.Need-is-start-requires Inv-loop μ-loop
+is-start-requires c κs = (search needs, search needs, search needs, c .before .before .before .before .before .pre .2, c .before .before .before .before .before .pre .3, c .before .before .before .before .before .pre .4)
+
+-- src/lib.rt:86:14
+one-if-requires : tie.Need-one-if-requires Inv-loop μ-loop
+one-if-requires c κs = search needs
+
+-- src/lib.rt:86:9
+add-c : tie.Need-add-c Inv-loop μ-loop
+add-c c = search needs
+
+-- src/lib.rt:87:9
+add-i : tie.Need-add-i Inv-loop μ-loop
+add-i c = search needs
+
+-- src/lib.rt:85:5
+loop-less : tie.Need-loop-less Inv-loop μ-loop
+loop-less c = search needs
+
+-- src/lib.rt:85:5
+loop-again : tie.Need-loop-again Inv-loop μ-loop
+loop-again c =
+    let v = c .before .before .before .loop in
+    let a = c .before .before .before .before .before .before .before .args in
+    omega (arith, starts-turn (earlier (a .vs .now) (a .k)) (a .ents .now) (a .b) (a .e) (v .i) (omega arith) (omega arith) (omega arith), c .one-if .ensures, ap {B = ℕ} (λ (z : Bool). cond z 1 0) (c .before .is-start .ensures))
+
+-- src/lib.rt:79:1
+returns : tie.Need-returns Inv-loop μ-loop
+returns c =
+    let v = c .before .loop in
+    let a = c .before .before .before .before .before .args in
+    let q : v .i ≡ a .e = omega arith in
+    let z : starts (earlier (a .vs .now) (a .k)) (drop (v .i - a .b) (around (slice (a .b) (a .e) (a .ents .now)))) ≡ 0 = rw q (starts-done (earlier (a .vs .now) (a .k)) (a .ents .now) (a .b) (a .e) (omega arith) (omega arith)) in
+    omega arith
+
+pub count-starts-spec : {M : Type 1} → statement M
+count-starts-spec =
+    tie.close
+    (tie.spec
+    Inv-loop
+    μ-loop
+    loop-holds
+    is-start-requires
+    one-if-requires
+    add-c
+    add-i
+    loop-less
+    loop-again
+    returns)
