@@ -139,8 +139,8 @@ pub fn total(ds: &[u16]) -> usize
 
 // Where each list begins among all entries, and after the last where it ends.
 pub fn starts(ds: &[u16], at: &mut [u16])
-    requires { ⌜ (length (now at) ≡ length (now ds) + 1) × (sumOf (now ds) ≤ 65535) ⌝ }
-    ensures { λ r. ⌜ ((u : ℕ) → u < length (now (at .exit)) → getD (now (at .exit)) u 0 ≡ sumOf (take u (now (ds .entry)))) ⌝ }
+    requires { ⌜ (length (now ds) < length (now at)) × (sumOf (now ds) ≤ 65535) ⌝ }
+    ensures { λ r. ⌜ ((u : ℕ) → u ≤ length (now (ds .entry)) → getD (now (at .exit)) u 0 ≡ sumOf (take u (now (ds .entry)))) ⌝ }
 {
     let mut t = 0;
     let mut u = 0;

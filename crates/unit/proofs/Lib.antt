@@ -1,1 +1,3 @@
 pub mod Starred
+pub mod Given
+pub mod Heads

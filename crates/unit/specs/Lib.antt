@@ -1,4 +1,6 @@
 pub mod Lamp
 pub mod Replies
+pub mod Refusals
 pub mod Demands
 pub mod Starred
+pub mod Held

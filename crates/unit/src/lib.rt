@@ -1,1 +1,72 @@
-// The unit: its three services, the refusals, and the three demands. specs/ has the definitions.
+// The unit: its three services and their refusals. specs/ has the table, the replies and the three demands.
+ghost use mathlib.Core.Path.{_≡_};
+ghost use Prim.Native.Nat.{ℕ, _+_, _*_, _-_, _≤_, _<_};
+ghost use lib.ListN.{length, getD, take};
+ghost use Rattle.block.specs.Layout.{limit, entries};
+ghost use Rattle.block.specs.Block.{posts, order};
+ghost use Rattle.order.specs.Held.{Ranked};
+ghost use Rattle.unit.specs.Replies.{given, checkReply};
+ghost use Rattle.unit.specs.Refusals.{replyOf};
+ghost use Rattle.unit.specs.Held.{headRows, listRows, ringRows, rowsFrom, Headed, Wide, Holds};
+
+use block::Block;
+use order::Fit;
+
+// Why a call is refused, with the place where there is one: a position, or a name.
+pub enum Refusal {
+    Short,
+    Mark,
+    Version,
+    Posts,
+    Length,
+    Sum,
+    Order(u16),
+    Degrees(u16),
+    Ring(u16),
+    Triangle(u16),
+    Outer,
+    Few(u16),
+    Broken(u16),
+    Last(u16),
+    Stage,
+    Room,
+    Name,
+}
+
+// check's reply: the number of posts, or the refusal.
+pub enum Checked {
+    Accepted(u16),
+    Refused(Refusal),
+}
+
+// Steps 1 to 6: mark, version, n, length and sum.
+fn header(s: &[u8]) -> Checked
+    ensures { λ r. ⌜ replyOf r ≡ given headRows (now (s .entry)) posts ⌝ }
+{
+    if s.len() < Block::ORDER_AT {
+        return Checked::Refused(Refusal::Short);
+    }
+    if !block::is_marked(s) {
+        return Checked::Refused(Refusal::Mark);
+    }
+    if words::word(s, Block::VERSION_AT) != 1 {
+        return Checked::Refused(Refusal::Version);
+    }
+    let posts = words::word(s, Block::POSTS_AT);
+    let n = words::number(posts);
+    if n < 3 {
+        return Checked::Refused(Refusal::Posts);
+    }
+    if Block::LIMIT < n {
+        return Checked::Refused(Refusal::Posts);
+    }
+    let b = Block { n };
+    if s.len() != b.size() {
+        return Checked::Refused(Refusal::Length);
+    }
+    let e = b.sum_at();
+    if words::word(s, e) != words::sum(s, e) {
+        return Checked::Refused(Refusal::Sum);
+    }
+    Checked::Accepted(posts)
+}

@@ -1,0 +1,71 @@
+-- Laws of the reply that a table gives: the first row that applies, and no other reply.
+use mathlib.Core.Path.{_≡_, refl, sym, ap, _∙_}
+use mathlib.Core.Bool.{Bool, true, false, true≢false}
+use mathlib.Core.List.{List, [], _∷_, _++_, append-nil}
+use Prim.Native.Nat.{ℕ}
+use native.Mathlib.Omega.{arith}
+use Rattle.unit.specs.Lamp.{Row}
+use Rattle.unit.specs.Replies.{Reply, accepted, refused, given}
+use Rattle.unit.specs.Demands.{NoneApplies, Fixed, accepts, refuses}
+
+module _ {A : Type 0} (s : List ℕ) (answer : List ℕ → A) where
+  pub given-end : given [] s answer ≡ accepted (answer s)
+  unfolding given
+  given-end = refl
+
+  -- a row that does not apply is passed over; one that applies is given
+  pub given-skip : (r : Row) (rows : List Row) → r .when s ≡ false → given (r ∷ rows) s answer ≡ given rows s answer
+  unfolding given
+  given-skip r rows e = rw (e, given) refl
+
+  pub given-stop : (r : Row) (rows : List Row) → r .when s ≡ true → given (r ∷ rows) s answer ≡ refused (r .number) (r .place s)
+  unfolding given
+  given-stop r rows e = rw (e, given) refl
+
+  -- the rows of a table's first part, and then the rest
+  pub given-past : (rows rest : List Row) → NoneApplies rows s → given (rows ++ rest) s answer ≡ given rest s answer
+  given-past [] rest h = refl
+  given-past (r ∷ rows) rest h = given-skip r (rows ++ rest) (h .0) ∙ given-past rows rest (h .1)
+
+  pub given-none : (rows : List Row) → NoneApplies rows s → given rows s answer ≡ accepted (answer s)
+  given-none rows h = ap (λ (l : List Row). given l s answer) (sym (append-nil rows)) ∙ given-past rows [] h ∙ given-end
+
+  -- the reply is what the table fixes
+  pub given-fixed : (rows : List Row) → Fixed rows s (answer s) (given rows s answer)
+  given-fixed [] = rw given-end (accepts tt)
+  given-fixed (r ∷ rows) = go (r .when s) refl (given-fixed rows)
+    where
+      go : (b : Bool) → r .when s ≡ b → Fixed rows s (answer s) (given rows s answer) → Fixed (r ∷ rows) s (answer s) (given (r ∷ rows) s answer)
+      go true e F = rw (given-stop r rows e) (refuses [] r rows refl tt e)
+      go false e F = rw (given-skip r rows e) (later F)
+        where
+          later : {z : Reply A} → Fixed rows s (answer s) z → Fixed (r ∷ rows) s (answer s) z
+          later (accepts h) = accepts (e, h)
+          later (refuses before q after is none t) = refuses (r ∷ before) q after (ap (λ (l : List Row). r ∷ l) is) (e, none) t
+
+-- and only that
+pub fixed-given : {A : Type 0} (rows : List Row) (s : List ℕ) (answer : List ℕ → A) {r : Reply A} → Fixed rows s (answer s) r → r ≡ given rows s answer
+fixed-given rows s answer (accepts h) = sym (given-none s answer rows h)
+fixed-given rows s answer (refuses before q after is none t) =
+    sym (ap (λ (l : List Row). given l s answer) is ∙ given-past s answer before (q ∷ after) none ∙ given-stop s answer q after t)
+
+pub fixed-one : {A : Type 0} (rows : List Row) (s : List ℕ) (a : A) (r q : Reply A) → Fixed rows s a r → Fixed rows s a q → r ≡ q
+fixed-one rows s a r q F G = fixed-given rows s (λ z. a) F ∙ sym (fixed-given rows s (λ z. a) G)
+
+-- what a reply says of the rows
+module _ {A : Type 0} (s : List ℕ) (answer : List ℕ → A) where
+  pub given-says : (rows : List Row) (a : A) → given rows s answer ≡ accepted a → NoneApplies rows s
+  given-says rows a e = go (given-fixed s answer rows) e
+    where
+      go : {r : Reply A} → Fixed rows s (answer s) r → r ≡ accepted a → NoneApplies rows s
+      go (accepts h) q = h
+      go (refuses before t after is none w) q = absurd (let z : _≡_ {A = ℕ} 0 1 = cc in omega arith)
+
+  -- a refusal of the first part is the refusal of the whole
+  pub given-refused : (rows rest : List Row) (number place : ℕ) → given rows s answer ≡ refused number place → given (rows ++ rest) s answer ≡ refused number place
+  given-refused [] rest number place e = absurd (let f = given-end s answer in let z : _≡_ {A = ℕ} 0 1 = cc in omega arith)
+  given-refused (r ∷ rows) rest number place e = go (r .when s) refl (given-refused rows rest number place)
+    where
+      go : (b : Bool) → r .when s ≡ b → (given rows s answer ≡ refused number place → given (rows ++ rest) s answer ≡ refused number place) → given (r ∷ rows ++ rest) s answer ≡ refused number place
+      go true w k = given-stop s answer r (rows ++ rest) w ∙ sym (given-stop s answer r rows w) ∙ e
+      go false w k = given-skip s answer r (rows ++ rest) w ∙ k (sym (given-skip s answer r rows w) ∙ e)
