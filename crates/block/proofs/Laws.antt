@@ -6,12 +6,16 @@ use native.Mathlib.Decide.{ℕ-discrete}
 use mathlib.Core.List.{List, [], _∷_, _++_}
 use native.Mathlib.Omega.{arith}
 use lib.Dec.{leb, ltb, eqb}
-use lib.ListN.{length, getD, take, set}
+use lib.ListN.{length, getD, take, set, replicate}
 use lib.Seq.{take-suc, getD-set-same, getD-set-other}
 use borrow.Author.Tests.{lt-ltb, le-ltb, le-leb, lt-leb, eq-eqb, ne-eqb}
+use Rattle.words.specs.First.{first}
 use Rattle.words.specs.Lists.{mem}
+use Rattle.words.specs.Numbers.{wordsAt}
+use Rattle.words.proofs.Numbers.{words-length}
 use Rattle.words.specs.Positions.{post, earlier}
-use Rattle.block.specs.Block.{marked, badEntry, badDegree}
+use Rattle.block.specs.Layout.{orderAt, degreesAt}
+use Rattle.block.specs.Block.{posts, order, degrees, marked, badEntry, badDegree}
 
 -- ---- the mark
 
@@ -82,3 +86,24 @@ module _ (vs marks : List ℕ) (k a : ℕ) (is : a ≡ post vs k) (m : Marked vs
       go : Dec (b ≡ a) → eqb (getD (set marks a 1) b 0) 1 ≡ (mem (take (k - 1) vs) b || eqb b a)
       go (yes q) = rw (eq-eqb b a q, q, getD-set-same marks a 1 0 room, or-true)
       go (no n) = rw (ne-eqb b a n, getD-set-other marks a b 1 0 n, or-false) (m b h)
+
+-- ---- reading a part: the list that was unpacked is the block's
+
+pub unpacked-length : (s X : List ℕ) (i n : ℕ) → take n X ≡ wordsAt s i n → length (take n X) ≡ n
+unpacked-length s X i n e = ap length e ∙ words-length s n i
+
+pub order-read : (s X : List ℕ) (n : ℕ) → n ≡ posts s → take n X ≡ wordsAt s orderAt n → take n X ≡ order s
+unfolding order
+order-read s X n p e = e ∙ ap (wordsAt s orderAt) p
+
+pub degrees-read : (s X : List ℕ) (n i : ℕ) → n ≡ posts s → i ≡ degreesAt n → take n X ≡ wordsAt s i n → take n X ≡ degrees s
+unfolding degrees
+degrees-read s X n i p q e = e ∙ ap (λ (j : ℕ). wordsAt s j n) q ∙ ap (λ (m : ℕ). wordsAt s (degreesAt m) m) p
+
+pub same-first : (f : ℕ → List ℕ → ℕ → Bool) (L M : List ℕ) (n b r : ℕ) → L ≡ M → length L ≡ n → r ≡ first b (length L) (f (length L) L) → r ≡ first b n (f n M)
+same-first f L M n b r e l h = rw (← e, ← l) h
+
+pub zeros-at : (k a : ℕ) → getD {A = ℕ} (replicate k 0) a 0 ≡ 0
+zeros-at zero a = refl
+zeros-at (suc k) zero = refl
+zeros-at (suc k) (suc a) = zeros-at k a

@@ -8,7 +8,7 @@ ghost use Rattle.words.specs.First.{first};
 ghost use Rattle.words.specs.Lists.{mem};
 ghost use Rattle.words.specs.Numbers.{wordsAt, sumOf};
 ghost use Rattle.block.specs.Layout.{limit, postsAt, orderAt, degreesAt, listsAt, entries, sumAt, size};
-ghost use Rattle.block.specs.Block.{marked, badEntry, badDegree};
+ghost use Rattle.block.specs.Block.{posts, order, degrees, marked, badEntry, badDegree};
 
 // A block's number of posts, which fixes where its parts begin.
 pub struct Block {
@@ -150,4 +150,31 @@ pub fn starts(ds: &[u16], at: &mut [u16])
         u += 1;
     }
     at[u] = t;
+}
+
+fn no_marks() -> [u8; 1000]
+    ensures { λ r. ⌜ (limit ≤ length r) × ((a : ℕ) → getD r a 0 ≡ 0) ⌝ }
+{
+    [0u8; 1000]
+}
+
+// Step 7: vs becomes the order; the first position at fault, or n + 1.
+pub fn read_order(s: &[u8], b: Block, vs: &mut [u16]) -> usize
+    requires { ⌜ (b .n ≡ posts (now s)) × (b .n ≤ limit) × (3 ≤ b .n) × (length (now s) ≡ size (b .n)) × (limit ≤ length (now vs)) ⌝ }
+    ensures { λ r. ⌜ (take (b .n) (now (vs .exit)) ≡ order (now (s .entry))) × (r ≡ first 1 (b .n) (badEntry (b .n) (order (now (s .entry))))) ⌝ }
+{
+    let n = b.n;
+    words::unpack(s, Block::ORDER_AT, n, vs);
+    let mut marks = no_marks();
+    first_bad_entry(&vs[..n], &mut marks)
+}
+
+// Step 8, the degrees one by one: ds becomes the degrees; the lowest name at fault, or n.
+pub fn read_degrees(s: &[u8], b: Block, ds: &mut [u16]) -> usize
+    requires { ⌜ (b .n ≡ posts (now s)) × (b .n ≤ limit) × (3 ≤ b .n) × (length (now s) ≡ size (b .n)) × (limit ≤ length (now ds)) ⌝ }
+    ensures { λ r. ⌜ (take (b .n) (now (ds .exit)) ≡ degrees (now (s .entry))) × (r ≡ first 0 (b .n) (badDegree (b .n) (degrees (now (s .entry))))) ⌝ }
+{
+    let n = b.n;
+    words::unpack(s, b.degrees_at(), n, ds);
+    first_bad_degree(&ds[..n])
 }

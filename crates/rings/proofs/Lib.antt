@@ -4,3 +4,4 @@ pub mod Held
 pub mod Around
 pub mod Places
 pub mod Says
+pub mod Read

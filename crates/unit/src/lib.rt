@@ -5,10 +5,9 @@ ghost use lib.ListN.{length, getD, take};
 ghost use Rattle.block.specs.Layout.{limit, entries};
 ghost use Rattle.block.specs.Block.{posts, order};
 ghost use Rattle.order.specs.Held.{Ranked};
-ghost use Rattle.unit.specs.Replies.{given, checkReply};
+ghost use Rattle.unit.specs.Replies.{accepted, given, checkReply};
 ghost use Rattle.unit.specs.Refusals.{replyOf};
 ghost use Rattle.unit.specs.Held.{headRows, listRows, ringRows, rowsFrom, Headed, Wide, Holds};
-
 use block::Block;
 use order::Fit;
 

@@ -1,0 +1,13 @@
+use Rattle.block.proofs.no_marks.Statement.{statement}
+use Rattle.block.proofs.no_marks.Tie as tie
+use Rattle.block.proofs.no_marks.Reads as reads
+use Rattle.block.proofs.no_marks.Lts as lts
+use Rattle.block.proofs.Laws.{zeros-at}
+use borrow.Author.Needs.{needs}
+
+-- src/lib.rt:155:1
+returns : tie.Need-returns
+returns c = (search needs, zeros-at 1000)
+
+pub no-marks-spec : {M : Type 1} → statement M
+no-marks-spec = tie.close (tie.spec returns)
