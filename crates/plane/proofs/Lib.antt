@@ -8,3 +8,4 @@ pub mod Over
 pub mod Next
 pub mod Start
 pub mod Sheet
+pub mod Every
