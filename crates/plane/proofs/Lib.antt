@@ -8,4 +8,5 @@ pub mod Over
 pub mod Next
 pub mod Start
 pub mod Sheet
+pub mod Tied
 pub mod Every
