@@ -18,7 +18,7 @@ use Rattle.words.proofs.Positions.{post-new, earlier-next}
 use Rattle.rings.specs.Rings.{ring}
 use Rattle.rings.proofs.Around.{After}
 use Rattle.order.specs.Order.{run}
-use Rattle.order.proofs.Contour.{Contour}
+use Rattle.order.proofs.Contour.{Run, Contour}
 use Rattle.order.proofs.Growth.{Grown, grow-at, start-at, run-near, run-whole, take-two}
 use Rattle.order.proofs.Sound.{Passes, passes-names, passes-faces, passes-outer}
 use Rattle.placing.specs.Stages.{Stage, third, upTo, onFrom, inner, placeOver, place, placeAll, stage}
@@ -58,6 +58,7 @@ pub record Step (G : List (List ℕ)) (t : Stage) (v : ℕ) : Type 0 where
   pub p : ℕ
   pub q : ℕ
   pub run-is : run G (t .placed) v ≡ p ∷ (M ++ q ∷ [])
+  pub the-run : Run (After G) (t .placed) v p M q
   pub before : t .contour ≡ X ++ p ∷ (M ++ q ∷ Y)
   pub after : place G t v .contour ≡ X ++ p ∷ v ∷ q ∷ Y
   pub new : ¬ (In v (t .placed))
@@ -165,6 +166,7 @@ module _ (G : List (List ℕ)) (vs : List ℕ) (A : Passes G vs) where
             p = g .p;
             q = g .q;
             run-is = g .run-is;
+            the-run = g .the-run;
             before = g .before;
             after = a;
             new = new;

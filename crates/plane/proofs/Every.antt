@@ -22,7 +22,8 @@ use Rattle.plane.proofs.Next.{OneStep}
 use Rattle.plane.proofs.Sheet.{turns, no-short, low, within, grid, rising, even, contour-placed, in-some, in-one, group-placed}
 use Rattle.plane.proofs.Tied.{Tied, tied-third, tied-next, one-step, left-moves, inner-moves, right-moves}
 
-three-differ : (vs : List ℕ) → Once vs → 3 ≤ length vs → (post vs 1 ≢ post vs 2) × (post vs 1 ≢ post vs 3) × (post vs 2 ≢ post vs 3)
+-- v1, v2 and v3 are three posts
+pub three-differ : (vs : List ℕ) → Once vs → 3 ≤ length vs → (post vs 1 ≢ post vs 2) × (post vs 1 ≢ post vs 3) × (post vs 2 ≢ post vs 3)
 three-differ [] o h = absurd (omega arith)
 three-differ (a ∷ []) o h = absurd (omega arith)
 three-differ (a ∷ b ∷ []) o h = absurd (omega arith)

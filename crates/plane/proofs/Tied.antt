@@ -7,7 +7,7 @@ use native.Mathlib.Omega.{arith}
 use lib.ListN.{length, length-append, List·getD-append}
 use Rattle.words.specs.Lists.{In, lastOf}
 use Rattle.words.specs.Positions.{post}
-use Rattle.words.proofs.Lists.{Head, head-same, in-head, last-append, last-in}
+use Rattle.words.proofs.Lists.{Head, Adj, head-same, in-head, last-append, last-in}
 use Rattle.rings.specs.Rings.{ring}
 use Rattle.rings.proofs.Says.{Faces, entry-other, entry-returned}
 use Rattle.placing.specs.Stages.{Stage, third, placeOver, place}
@@ -20,6 +20,7 @@ use Rattle.plane.proofs.Drawn.{Drawn}
 use Rattle.plane.proofs.Over.{before, after, inside, by-0, by-1, by-2}
 use Rattle.plane.proofs.Next.{OneStep, step, stepped}
 use Rattle.plane.proofs.Start.{three, start, first-post, second-post}
+use Rattle.plane.proofs.Tri.{Tri}
 use Rattle.plane.proofs.Sheet.{Recast, recast}
 
 -- a stage drawn over its contour C, and each wire of the rings between its posts is one of the drawing
@@ -58,6 +59,10 @@ module _ (G : List (List ℕ)) (F : Faces G) (v1 v2 v3 : ℕ) (d12 : v1 ≢ v2) 
         left = first-post v1 v2 v3 d12 d13 d23 .isX;
         right = ap (λ (n : ℕ). n + 4) (second-post v1 v2 v3 d12 d13 d23 .isX);
       }
+
+  pub third-tri : (a b : ℕ) → Adj (v1 ∷ v2 ∷ []) a b → Tri (tied-third .B) a b v3
+  unfolding tied-third
+  third-tri a b h = inl (refl, h)
 
 -- ---- the step
 module _ (G : List (List ℕ)) (t : Stage) (v : ℕ) (S : Step G t v) where
@@ -157,3 +162,12 @@ module _ (G : List (List ℕ)) (t : Stage) (v : ℕ) (S : Step G t v) where
           left = rw (e, e1) (first-stays (post (t .placed) 1) (S .old .first) ∙ T .left);
           right = rw (e, e2) (omega (arith, last-moves (post (t .placed) 1) (post (t .placed) 2) (S .old .last), T .right));
         }
+
+    -- its triangles: those that were there, and those of v with its run
+    pub tri-old : (F : Faces G) (a b u : ℕ) → Tri (T .B) a b u → Tri (tied-next F .B) a b u
+    unfolding tied-next
+    tri-old F a b u h = inr (redrawn .tri a b u h)
+
+    pub tri-new : (F : Faces G) (a b : ℕ) → Adj (S .p ∷ (S .M ++ S .q ∷ [])) a b → Tri (tied-next F .B) a b v
+    unfolding tied-next
+    tri-new F a b h = inl (refl, h)
