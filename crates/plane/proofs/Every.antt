@@ -38,7 +38,8 @@ pub record Advance (G : List (List ℕ)) (t t' : Stage) (v : ℕ) : Type 0 where
   pub inner : (c u : ℕ) → In c (step .M) → In u (t .group c) → t' .x u ≡ t .x u + 1
   pub right : (c u : ℕ) → In c (step .q ∷ step .Y) → In u (t .group c) → t' .x u ≡ t .x u + 2
 
-module _ (G : List (List ℕ)) (vs : List ℕ) (n : 3 ≤ length G) (A : Passes G vs) where
+module _ (G : List (List ℕ)) (vs : List ℕ) (A : Passes G vs) where
+  -- the drawing of stage k, its wires those of the rings
   pub tied-at : (k : ℕ) → 3 ≤ k → k ≤ length G → Tied G (stage G (take k vs))
   tied-at k h i =
       let all : length vs ≡ length G = A .all in

@@ -62,6 +62,7 @@ all-faces F R T rot done v f g u a b h (inr i) (inl j) (inr k) = rw j (rot b u v
 all-faces F R T rot done v f g u a b h (inr i) (inr j) (inl k) = rw k (rot v u a (f u a (R .triangle a v u (R .triangle u a v (rw k at h))) i j))
 all-faces F R T rot done v f g u a b h (inr i) (inr j) (inr k) = g u a b h i j k
 
+-- a drawing in which each triangle of the rings between placed posts is one of the drawing's, or the outer one
 record Faced (G : List (List ℕ)) (v1 v2 vn : ℕ) (t : Stage) : Type 0 where
   tied : Tied G t
   first : post (t .placed) 1 ≡ v1
@@ -162,7 +163,7 @@ module _ (G : List (List ℕ)) (F : Faces G) (v1 v2 vn : ℕ) (o : After G v2 v1
         }
 
 -- ---- every stage
-module _ (G : List (List ℕ)) (vs : List ℕ) (n : 3 ≤ length G) (A : Passes G vs) (k : ℕ) (h : 3 ≤ k) (i : k ≤ length G) where
+module _ (G : List (List ℕ)) (vs : List ℕ) (A : Passes G vs) (k : ℕ) (h : 3 ≤ k) (i : k ≤ length G) where
   abbrev v1 : ℕ
   v1 = post vs 1
 
@@ -189,7 +190,7 @@ module _ (G : List (List ℕ)) (vs : List ℕ) (n : 3 ≤ length G) (A : Passes 
       D = faced-at
 
       e : stage G (take k vs) .placed ≡ take k vs
-      e = placed-at G vs n A k h i
+      e = placed-at G vs A k h i
 
       go : Face (D .tied .B) v1 v2 vn u a b → Turn (places (stage G (take k vs))) u a b
       go (over-u h) = let t = tri-turn (places (stage G (take k vs))) (D .tied .B) a b u (turns (D .tied .drawn)) h in omega (arith, t)
@@ -197,7 +198,7 @@ module _ (G : List (List ℕ)) (vs : List ℕ) (n : 3 ≤ length G) (A : Passes 
       go (over-b h) = tri-turn (places (stage G (take k vs))) (D .tied .B) u a b (turns (D .tied .drawn)) h
       go (outer h) = absurd (out h)
 
-  -- before the last stage, every triangle
+  -- before the last stage vn waits, and every triangle turns so
   vn-waits : k < length G → (a : ℕ) → In a (take k vs) → a ≢ vn
   vn-waits l a j e =
       let all : length vs ≡ length G = A .all in
