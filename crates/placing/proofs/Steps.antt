@@ -60,6 +60,7 @@ pub record Step (G : List (List ℕ)) (t : Stage) (v : ℕ) : Type 0 where
   pub p : ℕ
   pub q : ℕ
   pub run-is : run G (t .placed) v ≡ p ∷ (M ++ q ∷ [])
+  pub the-run : Run (After G) (t .placed) v p M q
   pub before : t .contour ≡ X ++ p ∷ (M ++ q ∷ Y)
   pub after : place G t v .contour ≡ X ++ p ∷ v ∷ q ∷ Y
   pub new : ¬ (In v (t .placed))
@@ -69,7 +70,6 @@ pub record Step (G : List (List ℕ)) (t : Stage) (v : ℕ) : Type 0 where
   pub run-near : (a : ℕ) → In a (p ∷ (M ++ q ∷ [])) → In a (ring G v)
   pub run-back : (a : ℕ) → In v (ring G a) → In a (t .placed) → In a (p ∷ (M ++ q ∷ []))
   pub not-self : ¬ (In v (ring G v))
-  pub the-run : Run (After G) (t .placed) v p M q
   pub no-turn : ¬ (Adj (p ∷ (M ++ q ∷ [])) (post (t .placed) 2) (post (t .placed) 1))
   pub old : Contour (After G) (post (t .placed) 1) (post (t .placed) 2) (t .placed) (t .contour)
   pub now : Contour (After G) (post (t .placed) 1) (post (t .placed) 2) (place G t v .placed) (place G t v .contour)
@@ -176,6 +176,7 @@ module _ (G : List (List ℕ)) (vs : List ℕ) (A : Passes G vs) where
             p = g .p;
             q = g .q;
             run-is = g .run-is;
+            the-run = g .the-run;
             before = g .before;
             after = a;
             new = new;
@@ -185,7 +186,6 @@ module _ (G : List (List ℕ)) (vs : List ℕ) (A : Passes G vs) where
             run-near = λ a j. run-near G (t .placed) v a (rw (g .run-is) j);
             run-back = λ a j. all a (entry-returned G F a v j);
             not-self = λ j. entry-other G F v v j refl;
-            the-run = g .the-run;
             no-turn = rw (e1, e2) (g .no-turn);
             old = at-ends G _ _ (post vs 1) (post vs 2) (t .placed) (t .contour) e1 e2 C;
             now = at-ends G _ _ (post vs 1) (post vs 2) (place G t v .placed) (place G t v .contour) e1 e2

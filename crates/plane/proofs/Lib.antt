@@ -7,4 +7,8 @@ pub mod Drawn
 pub mod Over
 pub mod Next
 pub mod Start
+pub mod Tri
 pub mod Sheet
+pub mod Tied
+pub mod Every
+pub mod Mirror

@@ -11,6 +11,7 @@ use Rattle.drawing.specs.Meeting.{Places, NoneMeet, OnGrid}
 use Rattle.drawing.proofs.Lists.{Chain, chain-map, chain-from}
 use Rattle.drawing.proofs.Build.{Build, Wire, Good, on-contour}
 use Rattle.drawing.proofs.Static.{none-meet, different}
+use Rattle.plane.proofs.Tri.{Tri}
 use Rattle.plane.proofs.Shift.{good}
 use Rattle.plane.proofs.Step.{Later, later-trans}
 use Rattle.plane.proofs.Drawn.{places, Drawn}
@@ -78,7 +79,8 @@ pub record Recast (t : Stage) {C : List ℕ} (B : Build C) (C' : List ℕ) : Typ
   pub drawn : Drawn t B'
   pub wire : (u w : ℕ) → Wire B u w → Wire B' u w
   pub wire-back : (u w : ℕ) → Wire B' u w → Wire B u w
+  pub tri : (a b v : ℕ) → Tri B a b v → Tri B' a b v
 
 pub recast : {t : Stage} {C : List ℕ} (B : Build C) (C' : List ℕ) → Drawn t B → t .contour ≡ C' → Recast t B C'
 recast {t} B C' D e =
-    subst (Recast t B) (sym (D .contour) ∙ e) (record { B' = B; drawn = D; wire = λ u w h. h; wire-back = λ u w h. h })
+    subst (Recast t B) (sym (D .contour) ∙ e) (record { B' = B; drawn = D; wire = λ u w h. h; wire-back = λ u w h. h; tri = λ a b v h. h })

@@ -59,12 +59,12 @@ module _ (v1 v2 v3 : ℕ) (d12 : v1 ≢ v2) (d13 : v1 ≢ v3) (d23 : v2 ≢ v3) 
   abbrev g : ℕ → ℕ
   g = t .x
 
-  first-post : Corner (places t) g v1 0 0 0
+  pub first-post : Corner (places t) g v1 0 0 0
   unfolding third
   first-post =
       record { isX = rw (ne-eqb v1 v3 d13, ne-eqb v1 v2 d12); isY = rw (ne-eqb v1 v3 d13); place = rw (ne-eqb v1 v3 d13, ne-eqb v1 v2 d12) }
 
-  second-post : Corner (places t) g v2 2 0 2
+  pub second-post : Corner (places t) g v2 2 0 2
   unfolding third
   second-post =
       record { isX = rw (ne-eqb v2 v3 d23, eq-eqb v2 v2 refl); isY = rw (ne-eqb v2 v3 d23); place = rw (ne-eqb v2 v3 d23, eq-eqb v2 v2 refl) }

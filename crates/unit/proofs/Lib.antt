@@ -1,3 +1,4 @@
 pub mod Starred
 pub mod Given
 pub mod Heads
+pub mod Third
