@@ -69,3 +69,7 @@ module _ {A : Type 0} (s : List ℕ) (answer : List ℕ → A) where
       go : (b : Bool) → r .when s ≡ b → (given rows s answer ≡ refused number place → given (rows ++ rest) s answer ≡ refused number place) → given (r ∷ rows ++ rest) s answer ≡ refused number place
       go true w k = given-stop s answer r (rows ++ rest) w ∙ sym (given-stop s answer r rows w) ∙ e
       go false w k = given-skip s answer r (rows ++ rest) w ∙ k (sym (given-skip s answer r rows w) ∙ e)
+
+-- no refusal is an acceptance
+pub not-both : {A P : Type 0} {number place : ℕ} {a : A} → refused number place ≡ accepted a → P
+not-both e = absurd (let z : _≡_ {A = ℕ} 0 1 = cc in omega arith)

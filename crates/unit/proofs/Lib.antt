@@ -2,3 +2,4 @@ pub mod Starred
 pub mod Given
 pub mod Heads
 pub mod Third
+pub mod Loads

@@ -69,3 +69,24 @@ fn header(s: &[u8]) -> Checked
     }
     Checked::Accepted(posts)
 }
+
+// Steps 7 and 8: the order's entries and the degrees. Where they pass, vs, at and ents hold the order and the lists.
+fn load(s: &[u8], b: Block, vs: &mut [u16], ds: &mut [u16], at: &mut [u16], ents: &mut [u16]) -> Checked
+    requires { ⌜ Headed (now s) (b .n) × Wide (now vs) (now at) (now ents) × (limit ≤ length (now ds)) ⌝ }
+    ensures { λ r. ⌜ (replyOf r ≡ given listRows (now (s .entry)) posts) × ((n : ℕ) → replyOf r ≡ accepted n → Holds (now (s .entry)) (b .n) (now (vs .exit)) (now (at .exit)) (now (ents .exit))) ⌝ }
+{
+    let n = b.n;
+    let k = block::read_order(s, b, vs);
+    if k <= n {
+        return Checked::Refused(Refusal::Order(k as u16));
+    }
+    let u = block::read_degrees(s, b, ds);
+    if u < n {
+        return Checked::Refused(Refusal::Degrees(u as u16));
+    }
+    if block::total(&ds[..n]) != b.entries() {
+        return Checked::Refused(Refusal::Degrees(n as u16));
+    }
+    rings::read_lists(s, b, &ds[..n], at, ents);
+    Checked::Accepted(n as u16)
+}
