@@ -73,3 +73,16 @@ module _ {A : Type 0} (s : List ℕ) (answer : List ℕ → A) where
 -- no refusal is an acceptance
 pub not-both : {A P : Type 0} {number place : ℕ} {a : A} → refused number place ≡ accepted a → P
 not-both e = absurd (let z : _≡_ {A = ℕ} 0 1 = cc in omega arith)
+
+-- a refusal does not depend on what would have been answered
+pub refused-any : {A B : Type 0} (s : List ℕ) (f : List ℕ → A) (g : List ℕ → B) (rows : List Row) (number place : ℕ) → given rows s f ≡ refused number place → given rows s g ≡ refused number place
+refused-any s f g [] number place e = not-both (sym e ∙ given-end s f)
+refused-any s f g (r ∷ rows) number place e = go (r .when s) refl (refused-any s f g rows number place)
+  where
+    go : (b : Bool) → r .when s ≡ b → (given rows s f ≡ refused number place → given rows s g ≡ refused number place) → given (r ∷ rows) s g ≡ refused number place
+    go true w k =
+        let e1 = sym (given-stop s f r rows w) ∙ e in
+        let p : r .number ≡ number = cc in
+        let q : r .place s ≡ place = cc in
+        given-stop s g r rows w ∙ rw (p, q) refl
+    go false w k = given-skip s g r rows w ∙ k (sym (given-skip s f r rows w) ∙ e)

@@ -3,3 +3,4 @@ pub mod Given
 pub mod Heads
 pub mod Third
 pub mod Loads
+pub mod Rows

@@ -1,11 +1,13 @@
 -- How the services hold a block whose header is sound: its order, its lists, and the positions by name, each at the front of a longer array.
 use Prim.Native.Nat.{ℕ, _+_, _*_, _-_, _≤_, _<_}
 use mathlib.Core.Path.{_≡_}
-use mathlib.Core.List.{List, [], _∷_, flatMap}
-use lib.ListN.{length, getD, take, drop}
+use mathlib.Core.Bool.{true, false}
+use mathlib.Core.List.{List, flatMap}
+use lib.ListN.{length, take, drop}
 use Rattle.words.specs.First.{numbers}
 use Rattle.block.specs.Layout.{limit, entries, size}
-use Rattle.block.specs.Block.{posts, order, lists}
+use Rattle.block.specs.Block.{posts, order, lists, badEntry}
+use Rattle.rings.specs.Rings.{ringRule}
 use Rattle.rings.specs.Held.{held, Cuts}
 use Rattle.unit.specs.Lamp.{Row, blockRows, positionRows}
 
@@ -40,3 +42,16 @@ pub record Holds (s : List ℕ) (n : ℕ) (vs at ents : List ℕ) : Type 0 where
   pub orders : take n vs ≡ order s
   pub rings : held (take (n + 1) at) (take (entries n) ents) ≡ lists s
   pub cuts : Cuts (take (n + 1) at) (take (entries n) ents)
+
+-- the same in arrays that are just so long
+pub record Laid (s vs at ents : List ℕ) : Type 0 where
+  pub headed : Headed s (length vs)
+  pub orders : vs ≡ order s
+  pub rings : held at ents ≡ lists s
+  pub cuts : Cuts at ents
+  pub places : length at ≡ length vs + 1
+
+-- steps 7 and 9 have passed: the order's entries are names, and the ring rule holds
+pub record Ringed (s : List ℕ) : Type 0 where
+  pub entries-fine : (k : ℕ) → 1 ≤ k → k ≤ posts s → badEntry (posts s) (order s) k ≡ false
+  pub rings-fine : (u : ℕ) → u < posts s → ringRule (lists s) u ≡ true

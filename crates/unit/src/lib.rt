@@ -5,9 +5,10 @@ ghost use lib.ListN.{length, getD, take};
 ghost use Rattle.block.specs.Layout.{limit, entries};
 ghost use Rattle.block.specs.Block.{posts, order};
 ghost use Rattle.order.specs.Held.{Ranked};
+ghost use Rattle.unit.specs.Lamp.{positionRows};
 ghost use Rattle.unit.specs.Replies.{accepted, given, checkReply};
 ghost use Rattle.unit.specs.Refusals.{replyOf};
-ghost use Rattle.unit.specs.Held.{headRows, listRows, ringRows, rowsFrom, Headed, Wide, Holds};
+ghost use Rattle.unit.specs.Held.{headRows, listRows, ringRows, rowsFrom, Headed, Wide, Holds, Laid, Ringed};
 use block::Block;
 use order::Fit;
 
@@ -71,7 +72,14 @@ fn header(s: &[u8]) -> Checked
 }
 
 // Steps 7 and 8: the order's entries and the degrees. Where they pass, vs, at and ents hold the order and the lists.
-fn load(s: &[u8], b: Block, vs: &mut [u16], ds: &mut [u16], at: &mut [u16], ents: &mut [u16]) -> Checked
+fn load(
+    s: &[u8],
+    b: Block,
+    vs: &mut [u16],
+    ds: &mut [u16],
+    at: &mut [u16],
+    ents: &mut [u16],
+) -> Checked
     requires { ⌜ Headed (now s) (b .n) × Wide (now vs) (now at) (now ents) × (limit ≤ length (now ds)) ⌝ }
     ensures { λ r. ⌜ (replyOf r ≡ given listRows (now (s .entry)) posts) × ((n : ℕ) → replyOf r ≡ accepted n → Holds (now (s .entry)) (b .n) (now (vs .exit)) (now (at .exit)) (now (ents .exit))) ⌝ }
 {
@@ -88,5 +96,55 @@ fn load(s: &[u8], b: Block, vs: &mut [u16], ds: &mut [u16], at: &mut [u16], ents
         return Checked::Refused(Refusal::Degrees(n as u16));
     }
     rings::read_lists(s, b, &ds[..n], at, ents);
+    Checked::Accepted(n as u16)
+}
+
+// Steps 9 to 11: rings, triangles and the outer triangle.
+fn board(s: &[u8], vs: &[u16], at: &[u16], ents: &[u16]) -> Checked
+    requires { ⌜ Laid (now s) (now vs) (now at) (now ents) ⌝ }
+    ensures { λ r. ⌜ replyOf r ≡ given ringRows (now (s .entry)) posts ⌝ }
+{
+    let n = vs.len();
+    let u = rings::first_bad_ring(ents, at);
+    if u < n {
+        return Checked::Refused(Refusal::Ring(u as u16));
+    }
+    let t = rings::first_bad_triangle(ents, at);
+    if t < n {
+        return Checked::Refused(Refusal::Triangle(t as u16));
+    }
+    if !rings::is_outer(ents, at, vs[0], vs[1], vs[n - 1]) {
+        return Checked::Refused(Refusal::Outer);
+    }
+    Checked::Accepted(n as u16)
+}
+
+// Steps 12 to 14 at position k, which is answered where none applies.
+fn position(s: &[u8], vs: &[u16], at: &[u16], ents: &[u16], rank: &[u16], k: usize) -> Checked
+    requires { ⌜ Laid (now s) (now vs) (now at) (now ents) × Ranked (now vs) (now rank) × Ringed (now s) × (1 ≤ k) × (k ≤ length (now vs)) ⌝ }
+    ensures { λ r. ⌜ replyOf r ≡ given (positionRows k) (now (s .entry)) (λ z. k) ⌝ }
+{
+    let f = order::rule_at(ents, at, vs, rank, k);
+    match f {
+        Fit::Good => Checked::Accepted(k as u16),
+        Fit::Few => Checked::Refused(Refusal::Few(k as u16)),
+        Fit::Broken => Checked::Refused(Refusal::Broken(k as u16)),
+        Fit::Last => Checked::Refused(Refusal::Last(k as u16)),
+    }
+}
+
+// Steps 12 to 14, at positions 3 to n in turn.
+fn fitting(s: &[u8], vs: &[u16], at: &[u16], ents: &[u16], rank: &[u16]) -> Checked
+    requires { ⌜ Laid (now s) (now vs) (now at) (now ents) × Ranked (now vs) (now rank) × Ringed (now s) ⌝ }
+    ensures { λ r. ⌜ replyOf r ≡ given (rowsFrom 3 (length (now (vs .entry)))) (now (s .entry)) posts ⌝ }
+{
+    let n = vs.len();
+    let mut k = 3;
+    while k <= n {
+        if let Checked::Refused(r) = position(s, vs, at, ents, rank, k) {
+            return Checked::Refused(r);
+        }
+        k += 1;
+    }
     Checked::Accepted(n as u16)
 }
