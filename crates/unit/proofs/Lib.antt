@@ -4,3 +4,4 @@ pub mod Heads
 pub mod Third
 pub mod Loads
 pub mod Rows
+pub mod Sounds

@@ -9,6 +9,7 @@ use Rattle.block.specs.Layout.{limit, entries, size}
 use Rattle.block.specs.Block.{posts, order, lists, badEntry}
 use Rattle.rings.specs.Rings.{ringRule}
 use Rattle.rings.specs.Held.{held, Cuts}
+use Rattle.order.specs.Held.{Ranked}
 use Rattle.unit.specs.Lamp.{Row, blockRows, positionRows}
 
 -- the table's rows in the parts in which the code tries them: 1 to 6, 7 and 8, 9 to 11; and 12 to 14 at the positions from k on
@@ -51,7 +52,17 @@ pub record Laid (s vs at ents : List ℕ) : Type 0 where
   pub cuts : Cuts at ents
   pub places : length at ≡ length vs + 1
 
--- steps 7 and 9 have passed: the order's entries are names, and the ring rule holds
+-- step 7 has passed: the order's entries are names, each once
+abbrev pub Entered : List ℕ → Type 0
+Entered s = (k : ℕ) → 1 ≤ k → k ≤ posts s → badEntry (posts s) (order s) k ≡ false
+
+-- and step 9: the ring rule holds
 pub record Ringed (s : List ℕ) : Type 0 where
-  pub entries-fine : (k : ℕ) → 1 ≤ k → k ≤ posts s → badEntry (posts s) (order s) k ≡ false
+  pub entries-fine : Entered s
   pub rings-fine : (u : ℕ) → u < posts s → ringRule (lists s) u ≡ true
+
+-- after an acceptance: the block's header, order, lists and positions
+pub record Ready (s : List ℕ) (n : ℕ) (vs at ents rank : List ℕ) : Type 0 where
+  pub headed : Headed s n
+  pub holds : Holds s n vs at ents
+  pub ranked : Ranked (order s) rank

@@ -1,5 +1,6 @@
 // The unit: its three services and their refusals. specs/ has the table, the replies and the three demands.
 ghost use mathlib.Core.Path.{_≡_};
+ghost use mathlib.Core.List.{_++_};
 ghost use Prim.Native.Nat.{ℕ, _+_, _*_, _-_, _≤_, _<_};
 ghost use lib.ListN.{length, getD, take};
 ghost use Rattle.block.specs.Layout.{limit, entries};
@@ -8,7 +9,7 @@ ghost use Rattle.order.specs.Held.{Ranked};
 ghost use Rattle.unit.specs.Lamp.{positionRows};
 ghost use Rattle.unit.specs.Replies.{accepted, given, checkReply};
 ghost use Rattle.unit.specs.Refusals.{replyOf};
-ghost use Rattle.unit.specs.Held.{headRows, listRows, ringRows, rowsFrom, Headed, Wide, Holds, Laid, Ringed};
+ghost use Rattle.unit.specs.Held.{headRows, listRows, ringRows, rowsFrom, Headed, Wide, Holds, Laid, Entered, Ringed, Ready};
 use block::Block;
 use order::Fit;
 
@@ -147,4 +148,17 @@ fn fitting(s: &[u8], vs: &[u16], at: &[u16], ents: &[u16], rank: &[u16]) -> Chec
         k += 1;
     }
     Checked::Accepted(n as u16)
+}
+
+// Steps 9 to 14, for arrays that hold the order and the lists; rank becomes the positions by name.
+fn order_and_board(s: &[u8], vs: &[u16], at: &[u16], ents: &[u16], rank: &mut [u16]) -> Checked
+    requires { ⌜ Laid (now s) (now vs) (now at) (now ents) × (limit ≤ length (now rank)) × Entered (now s) ⌝ }
+    ensures { λ r. ⌜ (replyOf r ≡ given (ringRows ++ rowsFrom 3 (posts (now (s .entry)))) (now (s .entry)) posts) × ((n : ℕ) → replyOf r ≡ accepted n → Ranked (order (now (s .entry))) (now (rank .exit))) ⌝ }
+{
+    let r = board(s, vs, at, ents);
+    let Checked::Accepted(_) = r else {
+        return r;
+    };
+    order::ranks(vs, rank);
+    fitting(s, vs, at, ents, rank)
 }
