@@ -18,7 +18,11 @@ use Rattle.unit.specs.Lamp.{Row, blockRows, positionRows, checkRows, rin
 use Rattle.unit.specs.Replies.{Reply, accepted, refused, given, checkReply}
 use Rattle.unit.specs.Demands.{NoneApplies}
 use Rattle.unit.specs.Held.{headRows, listRows, ringRows, rowsFrom, Headed, Wide, Holds, Laid, Entered, Ringed, Ready}
-use Rattle.unit.proofs.Given.{given-past, given-says, given-refused, not-both}
+use Rattle.unit.specs.Refusals.{replyOf}
+use Rattle.unit.specs.declared.Checked.{Checked}
+use Rattle.unit.specs.declared.Checked.the-variants.{Accepted}
+use Rattle.unit.proofs.Given.{given-past, given-none, given-says, given-refused}
+use Rattle.unit.proofs.Heads.{headed}
 
 module _ (s : List ℕ) where
   pub order-length : length (order s) ≡ posts s
@@ -64,3 +68,14 @@ module _ (s : List ℕ) where
 
   pub entries-of : (vs : List ℕ) → length vs ≡ posts s → vs ≡ order s → Entered s → (k : ℕ) → 1 ≤ k → k ≤ length vs → badEntry (length vs) vs k ≡ false
   entries-of vs l e h k from to = rw (l, e) (h k from (omega arith))
+
+  pub headed-as : (r : Checked) (p n : ℕ) → replyOf r ≡ given headRows s posts → r ≡ Accepted p → n ≡ p → Headed s n
+  headed-as r p n e told is = subst⁻¹ (Headed s) is (headed s p (sym e ∙ ap replyOf told))
+
+  pub accepted-is : {A : Type 0} (answer : List ℕ → A) (rows : List Row) (a : A) → given rows s answer ≡ accepted a → a ≡ answer s
+  accepted-is answer rows a e = let z = given-none s answer rows (given-says s answer rows a e) in cc
+
+  pub ready : (m n : ℕ) (vs at ents rank : List ℕ) → Headed s m → Holds s m vs at ents → Ranked (order s) rank → n ≡ posts s → Ready s n vs at ents rank
+  ready m n vs at ents rank H A R e =
+      let q : n ≡ m = e ∙ sym (H .is) in
+      record { headed = subst⁻¹ (Headed s) q H; holds = subst⁻¹ (λ (k : ℕ). Holds s k vs at ents) q A; ranked = R }

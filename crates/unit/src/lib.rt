@@ -162,3 +162,60 @@ fn order_and_board(s: &[u8], vs: &[u16], at: &[u16], ents: &[u16], rank: &mut [u
     order::ranks(vs, rank);
     fitting(s, vs, at, ents, rank)
 }
+
+// check, with the arrays lent: after an acceptance they hold the order, the lists and the positions by name.
+fn check_into(
+    s: &[u8],
+    vs: &mut [u16],
+    ds: &mut [u16],
+    at: &mut [u16],
+    ents: &mut [u16],
+    rank: &mut [u16],
+) -> Checked
+    requires { ⌜ Wide (now vs) (now at) (now ents) × (limit ≤ length (now ds)) × (limit ≤ length (now rank)) ⌝ }
+    ensures { λ r. ⌜ (replyOf r ≡ checkReply (now (s .entry))) × ((n : ℕ) → replyOf r ≡ accepted n → Ready (now (s .entry)) n (now (vs .exit)) (now (at .exit)) (now (ents .exit)) (now (rank .exit))) ⌝ }
+{
+    let h = header(s);
+    let Checked::Accepted(posts) = h else {
+        return h;
+    };
+    let n = words::number(posts);
+    let b = Block { n };
+    let l = load(s, b, vs, ds, at, ents);
+    let Checked::Accepted(_) = l else {
+        return l;
+    };
+    let e = b.entries();
+    let p = n + 1;
+    order_and_board(s, &vs[..n], &at[..p], &ents[..e], rank)
+}
+
+fn no_names() -> [u16; 1000]
+    ensures { λ r. ⌜ limit ≤ length r ⌝ }
+{
+    [0u16; 1000]
+}
+
+fn no_places() -> [u16; 1001]
+    ensures { λ r. ⌜ limit + 1 ≤ length r ⌝ }
+{
+    [0u16; 1001]
+}
+
+fn no_entries() -> [u16; 5988]
+    ensures { λ r. ⌜ entries limit ≤ length r ⌝ }
+{
+    [0u16; 5988]
+}
+
+// check: any bytes; accepted with the number of posts, or the refusal and place that the table fixes.
+pub fn check(s: &[u8]) -> Checked
+    ensures { λ r. ⌜ replyOf r ≡ checkReply (now (s .entry)) ⌝ }
+{
+    let mut vs = no_names();
+    let mut ds = no_names();
+    let mut at = no_places();
+    let mut ents = no_entries();
+    let mut rank = no_names();
+    check_into(s, &mut vs, &mut ds, &mut at, &mut ents, &mut rank)
+}
