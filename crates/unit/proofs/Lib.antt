@@ -5,3 +5,5 @@ pub mod Third
 pub mod Loads
 pub mod Rows
 pub mod Sounds
+pub mod Accepts
+pub mod Demanded

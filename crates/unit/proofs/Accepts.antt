@@ -1,0 +1,160 @@
+-- No row of check's table applies exactly when the lists and the order pass the tests.
+use Prim.Native.Nat.{ℕ, zero, suc, _+_, _*_, _-_, _≤_, _<_}
+use mathlib.Core.Path.{_≡_, refl, sym, ap, _∙_, subst, subst⁻¹}
+use mathlib.Core.Bool.{Bool, true, false, not, _&&_, _||_, true≢false}
+use mathlib.Core.List.{List, [], _∷_, _++_, map, flatMap}
+use native.Mathlib.Omega.{arith}
+use native.Mathlib.Decide.{ℕ-discrete}
+use lib.Dec.{ltb, eqb}
+use lib.ListN.{length}
+use borrow.Author.Tests.{lt-ltb, ltb-true, eq-eqb, eqb-true, not-false}
+use Rattle.words.specs.First.{numbers, some}
+use Rattle.words.specs.Numbers.{wordsAt, sumOf}
+use Rattle.words.specs.Positions.{post, earlier, later}
+use Rattle.words.proofs.First.{some-none, some-false}
+use Rattle.words.proofs.Numbers.{words-length}
+use Rattle.block.specs.Layout.{entries, listsAt}
+use Rattle.block.specs.Block.{posts, order, degrees, listsFrom, lists, badEntry, badDegree, Framed}
+use Rattle.rings.specs.Rings.{ringRule, triangleRule, outerRule}
+use Rattle.rings.specs.Plane.{Plane}
+use Rattle.order.specs.Order.{twoPlaced, oneRun, oneLater}
+use Rattle.order.specs.Canonical.{Canonical}
+use Rattle.order.proofs.Sound.{Passes}
+use Rattle.unit.specs.Lamp.{Row, blockRows, positionRows, checkRows, ringFault, triangleFault}
+use Rattle.unit.specs.Demands.{NoneApplies}
+use Rattle.unit.specs.Held.{headRows, listRows, ringRows}
+use Rattle.unit.proofs.Heads.{framed, framed-none}
+use Rattle.unit.proofs.Sounds.{order-length}
+
+-- ---- the lists are as long as the degrees say
+
+from-lengths : (s : List ℕ) (i : ℕ) (ds : List ℕ) → map length (listsFrom s i ds) ≡ ds
+unfolding listsFrom
+from-lengths s i [] = refl
+from-lengths s i (d ∷ ds) = rw (words-length s d i, from-lengths s (i + 2 * d) ds) refl
+
+from-count : (s : List ℕ) (i : ℕ) (ds : List ℕ) → length (listsFrom s i ds) ≡ length ds
+unfolding listsFrom
+from-count s i [] = refl
+from-count s i (d ∷ ds) = ap suc (from-count s (i + 2 * d) ds)
+
+module _ (s : List ℕ) where
+  pub lists-degrees : map length (lists s) ≡ degrees s
+  unfolding lists
+  lists-degrees = from-lengths s (listsAt (posts s)) (degrees s)
+
+  pub lists-count : length (lists s) ≡ posts s
+  unfolding lists degrees
+  lists-count = from-count s (listsAt (posts s)) (degrees s) ∙ words-length s (posts s) _
+
+-- ---- rows in parts
+
+pub none-left : (a b : List Row) (s : List ℕ) → NoneApplies (a ++ b) s → NoneApplies a s
+none-left [] b s h = tt
+none-left (r ∷ a) b s h = (h .0, none-left a b s (h .1))
+
+none-right : (a b : List Row) (s : List ℕ) → NoneApplies (a ++ b) s → NoneApplies b s
+none-right [] b s h = h
+none-right (r ∷ a) b s h = none-right a b s (h .1)
+
+none-both : (a b : List Row) (s : List ℕ) → NoneApplies a s → NoneApplies b s → NoneApplies (a ++ b) s
+none-both [] b s h k = k
+none-both (r ∷ a) b s h k = (h .0, none-both a b s (h .1) k)
+
+at-positions : (s : List ℕ) (m k j : ℕ) → NoneApplies (flatMap positionRows (numbers k m)) s → k ≤ j → j < k + m → NoneApplies (positionRows j) s
+unfolding flatMap numbers
+at-positions s zero k j h a b = absurd (omega arith)
+at-positions s (suc m) k j h a b = go (ℕ-discrete k j) (at-positions s m (suc k) j)
+  where
+    go : Dec (k ≡ j) → (NoneApplies (flatMap positionRows (numbers (suc k) m)) s → suc k ≤ j → j < suc k + m → NoneApplies (positionRows j) s) → NoneApplies (positionRows j) s
+    go (yes e) rec = subst (λ (i : ℕ). NoneApplies (positionRows i) s) e (none-left (positionRows k) (flatMap positionRows (numbers (suc k) m)) s h)
+    go (no n) rec = rec (none-right (positionRows k) (flatMap positionRows (numbers (suc k) m)) s h) (omega arith) (omega arith)
+
+all-positions : (s : List ℕ) (m k : ℕ) → ((j : ℕ) → k ≤ j → j < k + m → NoneApplies (positionRows j) s) → NoneApplies (flatMap positionRows (numbers k m)) s
+unfolding flatMap numbers
+all-positions s zero k f = tt
+all-positions s (suc m) k f =
+    none-both (positionRows k) (flatMap positionRows (numbers (suc k) m)) s (f k (omega arith) (omega arith)) (all-positions s m (suc k) (λ j a b. f j (omega arith) (omega arith)))
+
+or-false : (x y : Bool) → x || y ≡ false → (x ≡ false) × (y ≡ false)
+or-false true y e = absurd (true≢false e)
+or-false false y e = (refl, e)
+
+and-false : (x y : Bool) → x && y ≡ false → x ≡ true → y ≡ false
+and-false true y e t = e
+and-false false y e t = absurd (true≢false (sym t))
+
+false-and : (x y : Bool) → (x ≡ true → y ≡ false) → x && y ≡ false
+false-and true y f = f refl
+false-and false y f = refl
+
+-- ---- steps 7 to 14
+
+module _ (s : List ℕ) where
+  abbrev G : List (List ℕ)
+  G = lists s
+
+  abbrev vs : List ℕ
+  vs = order s
+
+  pub none-passes : NoneApplies (checkRows s) s → Passes (lists s) (order s)
+  unfolding checkRows blockRows positionRows
+  none-passes h =
+      let n = lists-count s in
+      let r = none-left blockRows (flatMap positionRows (numbers 3 (posts s - 2))) s h .1 .1 .1 .1 .1 .1 in
+      let q = at-positions s (posts s - 2) 3 in
+      let p = none-right blockRows (flatMap positionRows (numbers 3 (posts s - 2))) s h in
+      let d = or-false (some 0 (posts s) (badDegree (posts s) (degrees s))) _ (r .1 .0) in
+      record {
+        all = order-length s ∙ sym n;
+        entries = λ k a b. rw n (some-none (badEntry (posts s) (order s)) 1 (posts s) (r .0) k a (omega (arith, n)));
+        degrees = λ u a. rw (n, lists-degrees s) (some-none (badDegree (posts s) (degrees s)) 0 (posts s) (d .0) u (omega arith) (omega (arith, n)));
+        total = rw (lists-degrees s, n) (eqb-true (sumOf (degrees s)) (entries (posts s)) (not-false (eqb (sumOf (degrees s)) (entries (posts s))) (d .1)));
+        rings = λ u a. not-false (ringRule (lists s) u) (some-none (ringFault s) 0 (posts s) (r .1 .1 .0) u (omega arith) (omega (arith, n)));
+        triangles = λ u a. not-false (triangleRule (lists s) u) (some-none (triangleFault s) 0 (posts s) (r .1 .1 .1 .0) u (omega arith) (omega (arith, n)));
+        outer = rw n (not-false (outerRule (lists s) (post (order s) 1) (post (order s) 2) (post (order s) (posts s))) (r .1 .1 .1 .1 .0));
+        two = λ k a b. not-false (twoPlaced (lists s) (earlier (order s) k) (post (order s) k)) (q k p a (omega (arith, n)) .0);
+        run = λ k a b. not-false (oneRun (lists s) (earlier (order s) k) (post (order s) k)) (q k p a (omega (arith, n)) .1 .0);
+        later = λ k a b. not-false (oneLater (lists s) (later (order s) k) (post (order s) k)) (and-false (ltb k (posts s)) _ (q k p a (omega (arith, n)) .1 .1 .0) (lt-ltb k (posts s) (omega (arith, n))));
+      }
+
+  module _ (F : Framed s) (P : Passes (lists s) (order s)) where
+    n-is : length (lists s) ≡ posts s
+    n-is = lists-count s
+
+    degrees-fine : some 0 (posts s) (badDegree (posts s) (degrees s)) ≡ false
+    degrees-fine =
+        some-false (badDegree (posts s) (degrees s)) 0 (posts s) (λ u a b. rw (n-is, lists-degrees s) at (P .degrees u (omega (arith, n-is))))
+
+    total-fine : sumOf (degrees s) ≡ entries (posts s)
+    total-fine = rw (lists-degrees s, n-is) at (P .total)
+
+    block-none : NoneApplies (listRows ++ ringRows) s
+    unfolding blockRows
+    block-none = (
+      some-false (badEntry (posts s) (order s)) 1 (posts s) (λ k a b. rw n-is at (P .entries k a (omega (arith, n-is)))),
+      (
+        rw (degrees-fine, eq-eqb (sumOf (degrees s)) (entries (posts s)) total-fine) refl,
+        (
+          some-false (ringFault s) 0 (posts s) (λ u a b. ap not (P .rings u (omega (arith, n-is)))),
+          (some-false (triangleFault s) 0 (posts s) (λ u a b. ap not (P .triangles u (omega (arith, n-is)))), (ap not (rw n-is at (P .outer)), tt)),
+        ),
+      ),
+    )
+
+    position-none : (k : ℕ) → 3 ≤ k → k ≤ posts s → NoneApplies (positionRows k) s
+    unfolding positionRows
+    position-none k a b = (
+      ap not (P .two k a (omega (arith, n-is))),
+      (
+        ap not (P .run k a (omega (arith, n-is))),
+        (false-and (ltb k (posts s)) (not (oneLater (lists s) (later (order s) k) (post (order s) k))) (λ t. ap not (P .later k a (omega (arith, ltb-true k (posts s) t, n-is)))), tt),
+      ),
+    )
+
+    pub passes-none : NoneApplies (checkRows s) s
+    unfolding checkRows blockRows
+    passes-none =
+        none-both headRows (listRows ++ ringRows ++ flatMap positionRows (numbers 3 (posts s - 2))) s (framed-none s F)
+        (none-both (listRows ++ ringRows) (flatMap positionRows (numbers 3 (posts s - 2))) s block-none
+        (all-positions s (posts s - 2) 3 (λ j a b. position-none j a (omega (arith, F .posts-least)))))

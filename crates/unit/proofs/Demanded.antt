@@ -1,0 +1,111 @@
+-- The three demands, proved of the unit that the paper describes; and that no other replies meet them.
+use Prim.Native.Nat.{ℕ, _+_, _*_, _-_, _≤_, _<_}
+use mathlib.Core.Path.{_≡_, refl, sym, ap, _∙_, subst}
+use mathlib.Core.Logic.{_↔_}
+use mathlib.Core.List.{List, _++_, flatMap}
+use native.Mathlib.Omega.{arith}
+use lib.ListN.{length, take, drop}
+use Rattle.words.specs.First.{numbers}
+use Rattle.words.specs.Positions.{post}
+use Rattle.block.specs.Block.{posts, order, lists, Framed}
+use Rattle.rings.specs.Plane.{Plane}
+use Rattle.order.specs.Canonical.{Canonical}
+use Rattle.order.proofs.Sound.{Passes, passes-sound, sound-passes}
+use Rattle.placing.specs.Records.{recordOf, entriesOf}
+use Rattle.unit.specs.Lamp.{Row, blockRows, positionRows, checkRows, sheetRows, postRows}
+use Rattle.unit.specs.Replies.{Reply, accepted, refused, given, stageAt, checkReply, sheetReply, bufferFor, bufferAfter, postReply}
+use Rattle.unit.specs.Demands.{Services, thePaper, Accepted, Refused, NoneApplies, Fixed, accepts, refuses, Demand1, Sound, Demand2, Demand3}
+use Rattle.unit.specs.Held.{headRows}
+use Rattle.unit.proofs.Given.{given-none, given-says, given-fixed, fixed-one, not-both}
+use Rattle.unit.proofs.Heads.{framed}
+use Rattle.unit.proofs.Sounds.{accepted-is}
+use Rattle.unit.proofs.Accepts.{none-left, lists-count, none-passes, passes-none}
+use Rattle.unit.proofs.Third.{demand-3}
+
+-- a reply is an acceptance or a refusal
+either : {A C : Type 0} (r : Reply A) → (Accepted r → C) → (Refused r → C) → C
+either (accepted a) f g = f (a, refl)
+either (refused number place) f g = g (number, place, refl)
+
+-- ---- 1
+
+buffer-kept : (r : Reply ℕ) (s : List ℕ) (k : ℕ) (b : List ℕ) → Refused r → bufferFor r s k b ≡ b
+unfolding bufferFor
+buffer-kept (accepted a) s k b h = not-both (sym (h .2))
+buffer-kept (refused number place) s k b h = refl
+
+pub first-demand : Demand1 thePaper
+unfolding checkReply sheetReply postReply bufferAfter
+first-demand =
+    record {
+      check = λ s. given-fixed s posts (checkRows s);
+      sheet = λ s k b. given-fixed s (λ z. 2 * k) (sheetRows s k (length b));
+      post = λ s k u. given-fixed s (λ z. recordOf (stageAt k z) u) (postRows s k u);
+      unchanged = λ s k b. buffer-kept (sheetReply s k b) s k b;
+    }
+
+-- ---- 2
+
+module _ (s : List ℕ) where
+  -- an accepted block has the right mark, version, size and sum, and its lists and order pass the tests
+  pub accepted-none : (n : ℕ) → checkReply s ≡ accepted n → NoneApplies (checkRows s) s
+  unfolding checkReply
+  accepted-none n e = given-says s posts (checkRows s) n e
+
+  pub accepted-framed : (n : ℕ) → checkReply s ≡ accepted n → Framed s
+  unfolding checkRows blockRows
+  accepted-framed n e = framed s (none-left headRows (drop 6 blockRows ++ flatMap positionRows (numbers 3 (posts s - 2))) s (accepted-none n e))
+
+  pub accepted-sound : (n : ℕ) → checkReply s ≡ accepted n → Sound s
+  accepted-sound n e =
+      subst (λ (m : ℕ). Plane (lists s) (post (order s) 1) (post (order s) 2) (post (order s) m) × Canonical (lists s) (order s)) (lists-count s)
+      (passes-sound (lists s) (order s) (none-passes s (accepted-none n e)))
+
+  pub sound-accepted : Framed s → Sound s → checkReply s ≡ accepted (posts s)
+  unfolding checkReply
+  sound-accepted F S =
+      given-none s posts (checkRows s)
+      (passes-none s F
+      (sound-passes (lists s) (order s)
+      (subst (λ (m : ℕ). Plane (lists s) (post (order s) 1) (post (order s) 2) (post (order s) m) × Canonical (lists s) (order s)) (sym (lists-count s)) S)))
+
+stands : (r : Reply ℕ) (s : List ℕ) (k : ℕ) (b : List ℕ) → Accepted r → ((a : ℕ) → r ≡ accepted a → a ≡ 2 * k) → bufferFor r s k b ≡ entriesOf (stageAt k s) ++ drop (2 * k) b
+unfolding bufferFor
+stands (accepted a) s k b h f = ap (λ (m : ℕ). entriesOf (stageAt k s) ++ drop m b) (f a refl)
+stands (refused number place) s k b h f = not-both (h .1)
+
+pub second-demand : Demand2 thePaper
+unfolding sheetReply postReply bufferAfter
+second-demand =
+    record {
+      exactly = λ s F. (λ a. accepted-sound s (a .0) (a .1), λ S. (posts s, sound-accepted s F S));
+      others = λ s h. either (checkReply s) (λ a. absurd (h (accepted-framed s (a .0) (a .1), accepted-sound s (a .0) (a .1)))) (λ r. r);
+      stands = λ s k b h. stands (sheetReply s k b) s k b h (λ a e. accepted-is s (λ z. 2 * k) (sheetRows s k (length b)) a e);
+      recorded = λ s k u h. h .1 ∙ ap accepted (accepted-is s (λ z. recordOf (stageAt k z) u) (postRows s k u) (h .0) (h .1));
+    }
+
+-- ---- 3
+
+pub third-demand : Demand3 thePaper
+unfolding checkReply
+third-demand =
+    demand-3 thePaper
+    (λ s n e.
+    (none-passes s (accepted-none s n e), accepted-is s posts (checkRows s) n e, sym (lists-count s), accepted-framed s n e .posts-least))
+
+-- ---- how tight the services are held: two units that meet demands 1 and 2 reply alike, and leave the same buffer
+
+module _ (U W : Services) (D : Demand1 U) (E : Demand1 W) where
+  pub one-check : (s : List ℕ) → U .check s ≡ W .check s
+  one-check s = fixed-one (checkRows s) s (posts s) (U .check s) (W .check s) (D .check s) (E .check s)
+
+  pub one-sheet : (s : List ℕ) (k : ℕ) (b : List ℕ) → U .sheet s k b ≡ W .sheet s k b
+  one-sheet s k b = fixed-one (sheetRows s k (length b)) s (2 * k) (U .sheet s k b) (W .sheet s k b) (D .sheet s k b) (E .sheet s k b)
+
+  pub one-post : (s : List ℕ) (k u : ℕ) → U .post s k u ≡ W .post s k u
+  one-post s k u = fixed-one (postRows s k u) s (recordOf (stageAt k s) u) (U .post s k u) (W .post s k u) (D .post s k u) (E .post s k u)
+
+  pub one-buffer : Demand2 U → Demand2 W → (s : List ℕ) (k : ℕ) (b : List ℕ) → U .buffer s k b ≡ W .buffer s k b
+  one-buffer P Q s k b =
+      either (U .sheet s k b) (λ a. P .stands s k b a ∙ sym (Q .stands s k b (a .0, sym (one-sheet s k b) ∙ a .1)))
+      (λ r. D .unchanged s k b r ∙ sym (E .unchanged s k b (r .0, r .1, sym (one-sheet s k b) ∙ r .2)))
