@@ -19,8 +19,8 @@ use Rattle.unit.specs.Replies.{Reply, accepted, refused, given, checkRep
 use Rattle.unit.specs.Demands.{NoneApplies}
 use Rattle.unit.specs.Held.{headRows, listRows, ringRows, rowsFrom, Headed, Wide, Holds, Laid, Entered, Ringed, Ready}
 use Rattle.unit.specs.Refusals.{replyOf}
-use Rattle.unit.specs.declared.Checked.{Checked}
-use Rattle.unit.specs.declared.Checked.the-variants.{Accepted}
+use Rattle.unit.specs.declared.Answer.{Answer}
+use Rattle.unit.specs.declared.Answer.the-variants.{Accepted}
 use Rattle.unit.proofs.Given.{given-past, given-none, given-says, given-refused}
 use Rattle.unit.proofs.Heads.{headed}
 
@@ -69,7 +69,7 @@ module _ (s : List ℕ) where
   pub entries-of : (vs : List ℕ) → length vs ≡ posts s → vs ≡ order s → Entered s → (k : ℕ) → 1 ≤ k → k ≤ length vs → badEntry (length vs) vs k ≡ false
   entries-of vs l e h k from to = rw (l, e) (h k from (omega arith))
 
-  pub headed-as : (r : Checked) (p n : ℕ) → replyOf r ≡ given headRows s posts → r ≡ Accepted p → n ≡ p → Headed s n
+  pub headed-as : (r : Answer) (p n : ℕ) → replyOf r ≡ given headRows s posts → r ≡ Accepted p → n ≡ p → Headed s n
   headed-as r p n e told is = subst⁻¹ (Headed s) is (headed s p (sym e ∙ ap replyOf told))
 
   pub accepted-is : {A : Type 0} (answer : List ℕ → A) (rows : List Row) (a : A) → given rows s answer ≡ accepted a → a ≡ answer s

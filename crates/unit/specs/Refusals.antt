@@ -3,8 +3,8 @@ use Prim.Native.Nat.{ℕ}
 use Rattle.unit.specs.Replies.{Reply, accepted, refused}
 use Rattle.unit.specs.declared.Refusal.{Refusal}
 use Rattle.unit.specs.declared.Refusal.the-variants.{Short, Mark, Version, Posts, Length, Sum, Order, Degrees, Ring, Triangle, Outer, Few, Broken, Last, Stage, Room, Name}
-use Rattle.unit.specs.declared.Checked.{Checked}
-use Rattle.unit.specs.declared.Checked.the-variants.{Accepted, Refused}
+use Rattle.unit.specs.declared.Answer.{Answer}
+use Rattle.unit.specs.declared.Answer.the-variants.{Accepted, Refused}
 
 abbrev pub numberOf : Refusal → ℕ
 numberOf Short = 1
@@ -44,7 +44,7 @@ placeOf Stage = 0
 placeOf Room = 0
 placeOf Name = 0
 
--- the reply of check: n, or the refusal's number and place
-abbrev pub replyOf : Checked → Reply ℕ
+-- the reply of check and of sheet: n or 2k, or the refusal's number and place
+abbrev pub replyOf : Answer → Reply ℕ
 replyOf (Accepted n) = accepted n
 replyOf (Refused r) = refused (numberOf r) (placeOf r)

@@ -34,42 +34,42 @@ pub enum Refusal {
     Name,
 }
 
-// check's reply: the number of posts, or the refusal.
-pub enum Checked {
+// A reply: the number of posts from check, the count of entries from sheet; or the refusal.
+pub enum Answer {
     Accepted(u16),
     Refused(Refusal),
 }
 
 // Steps 1 to 6: mark, version, n, length and sum.
-fn header(s: &[u8]) -> Checked
+fn header(s: &[u8]) -> Answer
     ensures { λ r. ⌜ replyOf r ≡ given headRows (now (s .entry)) posts ⌝ }
 {
     if s.len() < Block::ORDER_AT {
-        return Checked::Refused(Refusal::Short);
+        return Answer::Refused(Refusal::Short);
     }
     if !block::is_marked(s) {
-        return Checked::Refused(Refusal::Mark);
+        return Answer::Refused(Refusal::Mark);
     }
     if words::word(s, Block::VERSION_AT) != 1 {
-        return Checked::Refused(Refusal::Version);
+        return Answer::Refused(Refusal::Version);
     }
     let posts = words::word(s, Block::POSTS_AT);
     let n = words::number(posts);
     if n < 3 {
-        return Checked::Refused(Refusal::Posts);
+        return Answer::Refused(Refusal::Posts);
     }
     if Block::LIMIT < n {
-        return Checked::Refused(Refusal::Posts);
+        return Answer::Refused(Refusal::Posts);
     }
     let b = Block { n };
     if s.len() != b.size() {
-        return Checked::Refused(Refusal::Length);
+        return Answer::Refused(Refusal::Length);
     }
     let e = b.sum_at();
     if words::word(s, e) != words::sum(s, e) {
-        return Checked::Refused(Refusal::Sum);
+        return Answer::Refused(Refusal::Sum);
     }
-    Checked::Accepted(posts)
+    Answer::Accepted(posts)
 }
 
 // Steps 7 and 8: the order's entries and the degrees. Where they pass, vs, at and ents hold the order and the lists.
@@ -80,83 +80,83 @@ fn load(
     ds: &mut [u16],
     at: &mut [u16],
     ents: &mut [u16],
-) -> Checked
+) -> Answer
     requires { ⌜ Headed (now s) (b .n) × Wide (now vs) (now at) (now ents) × (limit ≤ length (now ds)) ⌝ }
     ensures { λ r. ⌜ (replyOf r ≡ given listRows (now (s .entry)) posts) × ((n : ℕ) → replyOf r ≡ accepted n → Holds (now (s .entry)) (b .n) (now (vs .exit)) (now (at .exit)) (now (ents .exit))) ⌝ }
 {
     let n = b.n;
     let k = block::read_order(s, b, vs);
     if k <= n {
-        return Checked::Refused(Refusal::Order(k as u16));
+        return Answer::Refused(Refusal::Order(k as u16));
     }
     let u = block::read_degrees(s, b, ds);
     if u < n {
-        return Checked::Refused(Refusal::Degrees(u as u16));
+        return Answer::Refused(Refusal::Degrees(u as u16));
     }
     if block::total(&ds[..n]) != b.entries() {
-        return Checked::Refused(Refusal::Degrees(n as u16));
+        return Answer::Refused(Refusal::Degrees(n as u16));
     }
     rings::read_lists(s, b, &ds[..n], at, ents);
-    Checked::Accepted(n as u16)
+    Answer::Accepted(n as u16)
 }
 
 // Steps 9 to 11: rings, triangles and the outer triangle.
-fn board(s: &[u8], vs: &[u16], at: &[u16], ents: &[u16]) -> Checked
+fn board(s: &[u8], vs: &[u16], at: &[u16], ents: &[u16]) -> Answer
     requires { ⌜ Laid (now s) (now vs) (now at) (now ents) ⌝ }
     ensures { λ r. ⌜ replyOf r ≡ given ringRows (now (s .entry)) posts ⌝ }
 {
     let n = vs.len();
     let u = rings::first_bad_ring(ents, at);
     if u < n {
-        return Checked::Refused(Refusal::Ring(u as u16));
+        return Answer::Refused(Refusal::Ring(u as u16));
     }
     let t = rings::first_bad_triangle(ents, at);
     if t < n {
-        return Checked::Refused(Refusal::Triangle(t as u16));
+        return Answer::Refused(Refusal::Triangle(t as u16));
     }
     if !rings::is_outer(ents, at, vs[0], vs[1], vs[n - 1]) {
-        return Checked::Refused(Refusal::Outer);
+        return Answer::Refused(Refusal::Outer);
     }
-    Checked::Accepted(n as u16)
+    Answer::Accepted(n as u16)
 }
 
 // Steps 12 to 14 at position k, which is answered where none applies.
-fn position(s: &[u8], vs: &[u16], at: &[u16], ents: &[u16], rank: &[u16], k: usize) -> Checked
+fn position(s: &[u8], vs: &[u16], at: &[u16], ents: &[u16], rank: &[u16], k: usize) -> Answer
     requires { ⌜ Laid (now s) (now vs) (now at) (now ents) × Ranked (now vs) (now rank) × Ringed (now s) × (1 ≤ k) × (k ≤ length (now vs)) ⌝ }
     ensures { λ r. ⌜ replyOf r ≡ given (positionRows k) (now (s .entry)) (λ z. k) ⌝ }
 {
     let f = order::rule_at(ents, at, vs, rank, k);
     match f {
-        Fit::Good => Checked::Accepted(k as u16),
-        Fit::Few => Checked::Refused(Refusal::Few(k as u16)),
-        Fit::Broken => Checked::Refused(Refusal::Broken(k as u16)),
-        Fit::Last => Checked::Refused(Refusal::Last(k as u16)),
+        Fit::Good => Answer::Accepted(k as u16),
+        Fit::Few => Answer::Refused(Refusal::Few(k as u16)),
+        Fit::Broken => Answer::Refused(Refusal::Broken(k as u16)),
+        Fit::Last => Answer::Refused(Refusal::Last(k as u16)),
     }
 }
 
 // Steps 12 to 14, at positions 3 to n in turn.
-fn fitting(s: &[u8], vs: &[u16], at: &[u16], ents: &[u16], rank: &[u16]) -> Checked
+fn fitting(s: &[u8], vs: &[u16], at: &[u16], ents: &[u16], rank: &[u16]) -> Answer
     requires { ⌜ Laid (now s) (now vs) (now at) (now ents) × Ranked (now vs) (now rank) × Ringed (now s) ⌝ }
     ensures { λ r. ⌜ replyOf r ≡ given (rowsFrom 3 (length (now (vs .entry)))) (now (s .entry)) posts ⌝ }
 {
     let n = vs.len();
     let mut k = 3;
     while k <= n {
-        if let Checked::Refused(r) = position(s, vs, at, ents, rank, k) {
-            return Checked::Refused(r);
+        if let Answer::Refused(r) = position(s, vs, at, ents, rank, k) {
+            return Answer::Refused(r);
         }
         k += 1;
     }
-    Checked::Accepted(n as u16)
+    Answer::Accepted(n as u16)
 }
 
 // Steps 9 to 14, for arrays that hold the order and the lists; rank becomes the positions by name.
-fn order_and_board(s: &[u8], vs: &[u16], at: &[u16], ents: &[u16], rank: &mut [u16]) -> Checked
+fn order_and_board(s: &[u8], vs: &[u16], at: &[u16], ents: &[u16], rank: &mut [u16]) -> Answer
     requires { ⌜ Laid (now s) (now vs) (now at) (now ents) × (limit ≤ length (now rank)) × Entered (now s) ⌝ }
     ensures { λ r. ⌜ (replyOf r ≡ given (ringRows ++ rowsFrom 3 (posts (now (s .entry)))) (now (s .entry)) posts) × ((n : ℕ) → replyOf r ≡ accepted n → Ranked (order (now (s .entry))) (now (rank .exit))) ⌝ }
 {
     let r = board(s, vs, at, ents);
-    let Checked::Accepted(_) = r else {
+    let Answer::Accepted(_) = r else {
         return r;
     };
     order::ranks(vs, rank);
@@ -171,18 +171,18 @@ fn check_into(
     at: &mut [u16],
     ents: &mut [u16],
     rank: &mut [u16],
-) -> Checked
+) -> Answer
     requires { ⌜ Wide (now vs) (now at) (now ents) × (limit ≤ length (now ds)) × (limit ≤ length (now rank)) ⌝ }
     ensures { λ r. ⌜ (replyOf r ≡ checkReply (now (s .entry))) × ((n : ℕ) → replyOf r ≡ accepted n → Ready (now (s .entry)) n (now (vs .exit)) (now (at .exit)) (now (ents .exit)) (now (rank .exit))) ⌝ }
 {
     let h = header(s);
-    let Checked::Accepted(posts) = h else {
+    let Answer::Accepted(posts) = h else {
         return h;
     };
     let n = words::number(posts);
     let b = Block { n };
     let l = load(s, b, vs, ds, at, ents);
-    let Checked::Accepted(_) = l else {
+    let Answer::Accepted(_) = l else {
         return l;
     };
     let e = b.entries();
@@ -209,7 +209,7 @@ fn no_entries() -> [u16; 5988]
 }
 
 // check: any bytes; accepted with the number of posts, or the refusal and place that the table fixes.
-pub fn check(s: &[u8]) -> Checked
+pub fn check(s: &[u8]) -> Answer
     ensures { λ r. ⌜ replyOf r ≡ checkReply (now (s .entry)) ⌝ }
 {
     let mut vs = no_names();
