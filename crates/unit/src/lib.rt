@@ -8,7 +8,7 @@ ghost use Rattle.block.specs.Block.{posts, order};
 ghost use Rattle.order.specs.Held.{Ranked};
 ghost use Rattle.unit.specs.Lamp.{positionRows};
 ghost use Rattle.unit.specs.Replies.{accepted, given, checkReply};
-ghost use Rattle.unit.specs.Refusals.{replyOf};
+ghost use Rattle.unit.specs.Refusals.{numberOf, placeOf, replyOf};
 ghost use Rattle.unit.specs.Held.{headRows, listRows, ringRows, rowsFrom, Headed, Wide, Holds, Laid, Entered, Ringed, Ready};
 use block::Block;
 use order::Fit;
@@ -32,6 +32,58 @@ pub enum Refusal {
     Stage,
     Room,
     Name,
+}
+
+impl Refusal {
+    // The paper's number.
+    pub fn number(self) -> u16
+        ensures { λ r. ⌜ r ≡ numberOf self ⌝ }
+    {
+        match self {
+            Refusal::Short => 1,
+            Refusal::Mark => 2,
+            Refusal::Version => 3,
+            Refusal::Posts => 4,
+            Refusal::Length => 5,
+            Refusal::Sum => 6,
+            Refusal::Order(_) => 7,
+            Refusal::Degrees(_) => 8,
+            Refusal::Ring(_) => 9,
+            Refusal::Triangle(_) => 10,
+            Refusal::Outer => 11,
+            Refusal::Few(_) => 12,
+            Refusal::Broken(_) => 13,
+            Refusal::Last(_) => 14,
+            Refusal::Stage => 15,
+            Refusal::Room => 16,
+            Refusal::Name => 17,
+        }
+    }
+
+    // The place: a position, a name, or 0.
+    pub fn place(self) -> u16
+        ensures { λ r. ⌜ r ≡ placeOf self ⌝ }
+    {
+        match self {
+            Refusal::Short => 0,
+            Refusal::Mark => 0,
+            Refusal::Version => 0,
+            Refusal::Posts => 0,
+            Refusal::Length => 0,
+            Refusal::Sum => 0,
+            Refusal::Order(p) => p,
+            Refusal::Degrees(p) => p,
+            Refusal::Ring(p) => p,
+            Refusal::Triangle(p) => p,
+            Refusal::Outer => 0,
+            Refusal::Few(p) => p,
+            Refusal::Broken(p) => p,
+            Refusal::Last(p) => p,
+            Refusal::Stage => 0,
+            Refusal::Room => 0,
+            Refusal::Name => 0,
+        }
+    }
 }
 
 // A reply: the number of posts from check, the count of entries from sheet; or the refusal.
