@@ -1,2 +1,4 @@
+pub mod Signed
 pub mod Kept
 pub mod Stepped
+pub mod Paths

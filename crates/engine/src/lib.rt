@@ -1,1 +1,74 @@
-// Reaching a stage in linear time, from the block's lists, once a check has accepted it: differences are kept, and no post is moved.
+// Reaching a stage in linear time, once a check has accepted the block: differences are kept, and no post is moved.
+ghost use mathlib.Core.Path.{_≡_};
+ghost use Prim.Native.Nat.{ℕ, _+_, _*_, _-_, _/_, _≤_, _<_};
+ghost use lib.ListN.{length, getD, set};
+ghost use Rattle.engine.specs.Arrays.{bias, path, walk, along, Below, covered, hung, Fits, dropOf, riseOf, Ready, Over};
+
+// The new post's offset from w_p, with w_q `far` from it: a signed difference of heights, and half of an even sum.
+fn half_drop(far: u16, yp: u16, yq: u16) -> u16
+    requires { ⌜ (yp ≤ far + yq) × (far + yq ≤ 65535) ⌝ }
+    ensures { λ r. ⌜ r ≡ dropOf far yp yq ⌝ }
+{
+    let d = yq as i32 - yp as i32;
+    ((far as i32 + d) / 2) as u16
+}
+
+// Its height.
+fn half_rise(far: u16, yp: u16, yq: u16) -> u16
+    requires { ⌜ far + yq + yp ≤ 65535 ⌝ }
+    ensures { λ r. ⌜ r ≡ riseOf far yp yq ⌝ }
+{
+    ((far as i32 + yq as i32 + yp as i32) / 2) as u16
+}
+
+// Two stores, the second last.
+fn two(s: &mut [u16], a: u16, x: u16, b: u16, y: u16)
+    requires { ⌜ (a < length (now s)) × (b < length (now s)) ⌝ }
+    ensures { λ r. ⌜ now (s .exit) ≡ set (set (now (s .entry)) a x) b y ⌝ }
+{
+    let i = words::number(a);
+    let j = words::number(b);
+    s[i] = x;
+    s[j] = y;
+}
+
+// The post m places right of p on the contour, and the sum of the offsets on the way.
+pub struct Span {
+    pub end: u16,
+    pub sum: u16,
+}
+
+fn reach_right(right: &[u16], off: &[u16], p: u16, m: usize) -> Span
+    requires { ⌜ Below (length (now right)) (path (now right) p m) × Below (length (now off)) (path (now right) (getD (now right) p 0) m) × (along (now off) (path (now right) (getD (now right) p 0) m) ≤ 65535) ⌝ }
+    ensures { λ r. ⌜ (r .end ≡ walk (now (right .entry)) p m) × (r .sum ≡ along (now (off .entry)) (path (now (right .entry)) (getD (now (right .entry)) p 0) m)) ⌝ }
+{
+    let mut a = p;
+    let mut s: u16 = 0;
+    let mut i = 0;
+    while i < m {
+        let j = words::number(a);
+        a = right[j];
+        let b = words::number(a);
+        s += off[b];
+        i += 1;
+    }
+    Span { end: a, sum: s }
+}
+
+// The m posts from `first` on are covered by v, whose offset is d.
+fn hang(right: &[u16], off: &mut [u16], cover: &mut [u16], first: u16, m: usize, d: u16, v: u16)
+    requires { ⌜ Below (length (now right)) (path (now right) first m) × Below (length (now off)) (path (now right) first m) × Below (length (now cover)) (path (now right) first m) × Fits (now off) (path (now right) first m) 1 d × (d ≤ bias) ⌝ }
+    ensures { λ r. ⌜ (now (off .exit) ≡ hung (now (off .entry)) (path (now (right .entry)) first m) 1 d) × (now (cover .exit) ≡ covered (now (cover .entry)) (path (now (right .entry)) first m) v) ⌝ }
+{
+    let mut a = first;
+    let mut s: u16 = 1;
+    let mut i = 0;
+    while i < m {
+        let j = words::number(a);
+        s += off[j];
+        off[j] = s + 4096 - d;
+        cover[j] = v;
+        a = right[j];
+        i += 1;
+    }
+}
