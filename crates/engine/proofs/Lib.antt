@@ -2,3 +2,4 @@ pub mod Signed
 pub mod Kept
 pub mod Stepped
 pub mod Paths
+pub mod Made

@@ -88,6 +88,8 @@ pub record Ready (v p m : ℕ) (ys off cover left right : List ℕ) : Type 0 whe
   pub v-right : v < length right
   pub run-right : Below (length right) (path right p (m - 1))
   pub run-off : Below (length off) (path right (getD right p 0) (m - 1))
+  pub in-right : Below (length right) (innerAt right p m)
+  pub in-off : Below (length off) (innerAt right p m)
   pub in-cover : Below (length cover) (innerAt right p m)
   pub far-fits : farAt right off p m + getD ys (runEnd right p m) 0 + getD ys p 0 ≤ 65535
   pub low : getD ys p 0 ≤ farAt right off p m + getD ys (runEnd right p m) 0

@@ -72,3 +72,33 @@ fn hang(right: &[u16], off: &mut [u16], cover: &mut [u16], first: u16, m: usize,
         i += 1;
     }
 }
+
+// v is put over the run of m posts that begins with p.
+fn place_over(
+    v: u16,
+    p: u16,
+    m: usize,
+    ys: &mut [u16],
+    off: &mut [u16],
+    cover: &mut [u16],
+    left: &mut [u16],
+    right: &mut [u16],
+)
+    requires { ⌜ Ready v p m (now ys) (now off) (now cover) (now left) (now right) ⌝ }
+    ensures { λ r. ⌜ Over v p m (now (ys .entry)) (now (off .entry)) (now (cover .entry)) (now (left .entry)) (now (right .entry)) (now (ys .exit)) (now (off .exit)) (now (cover .exit)) (now (left .exit)) (now (right .exit)) ⌝ }
+{
+    let e = reach_right(right, off, p, m - 1);
+    let q = e.end;
+    let far = e.sum + 2;
+    let i = words::number(p);
+    let j = words::number(q);
+    let k = words::number(v);
+    let d = half_drop(far, ys[i], ys[j]);
+    let h = half_rise(far, ys[i], ys[j]);
+    hang(right, off, cover, right[i], m - 2, d, v);
+    ys[k] = h;
+    cover[k] = v;
+    two(off, v, d, q, far - d);
+    two(left, v, p, q, v);
+    two(right, p, v, v, q);
+}
