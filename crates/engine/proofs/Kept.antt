@@ -25,7 +25,7 @@ use Rattle.plane.proofs.Drawn.{Drawn}
 use Rattle.plane.proofs.Over.{before, inside, after, ends, by-0, by-1, by-2}
 use Rattle.plane.proofs.Next.{OneStep, step, stepped}
 use Rattle.plane.proofs.Start.{three, start}
-use Rattle.plane.proofs.Sheet.{in-some, in-one, group-placed, contour-placed, Recast, recast}
+use Rattle.plane.proofs.Sheet.{in-some, in-one, group-placed, contour-placed, within, Recast, recast}
 
 pub record Kept (t : Stage) : Type 0 where
   pub C : List ℕ
@@ -45,6 +45,10 @@ pub record Moves (G : List (List ℕ)) (t : Stage) (v : ℕ) (s : Step G t v) : 
   pub alike : (u : ℕ) → In u (t .placed) → ¬ (In u (t .contour)) → place G t v .x u + t .x (t .cover u) ≡ place G t v .x (t .cover u) + t .x u
   pub cover-placed : (u : ℕ) → In u (t .placed) → ¬ (In u (t .contour)) → In (t .cover u) (t .placed)
   pub one : OneStep t (place G t v) (s .p) (s .q) v
+  -- between w_p and w_q no slope is steeper than one step up or down, and all is within the sheet
+  pub up : t .x (s .p) + t .y (s .p) ≤ t .x (s .q) + t .y (s .q)
+  pub down : t .x (s .p) + t .y (s .q) ≤ t .x (s .q) + t .y (s .p)
+  pub within : (u : ℕ) → In u (t .placed) → t .x u + t .y u + 4 ≤ 2 * length (t .placed)
 
 module _ (G : List (List ℕ)) (t : Stage) (v : ℕ) (s : Step G t v) (K : Kept t) where
   abbrev t' : Stage
@@ -117,7 +121,9 @@ module _ (G : List (List ℕ)) (t : Stage) (v : ℕ) (s : Step G t v) (K : Kept 
       go (yes a) (no b) = omega (arith, moved-2 u h (omega arith), moved-2 (t .cover u) hw (omega (arith, e)))
 
   pub moves : Moves G t v s
-  moves = record { stays = stays; by-one = by-one; by-two = by-two; alike = alike; cover-placed = cover-placed; one = one-step }
+  moves =
+      let pq = ends t (s .X) (s .p) (s .M) (s .q) (s .Y) D in
+      record { stays = stays; by-one = by-one; by-two = by-two; alike = alike; cover-placed = cover-placed; one = one-step; up = pq .sum; down = pq .dif; within = within D }
 
   -- ---- the next stage keeps it
   drawn' : Drawn t' (build-post (s .X) (s .p) (s .M) (s .q) (s .Y) v (R .B'))

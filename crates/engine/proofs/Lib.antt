@@ -3,3 +3,5 @@ pub mod Kept
 pub mod Stepped
 pub mod Paths
 pub mod Made
+pub mod Along
+pub mod Shown
