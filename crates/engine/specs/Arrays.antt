@@ -3,15 +3,10 @@ use Prim.Native.Nat.{ℕ, zero, suc, _+_, _-_, _/_, _≤_, _<_}
 use mathlib.Core.Path.{_≡_}
 use mathlib.Core.List.{List, [], _∷_}
 use lib.ListN.{length, getD, set}
-use Rattle.words.specs.Positions.{post}
 
 -- added to a covered post's offset, so that no number below zero is stored
 abbrev pub bias : ℕ
 bias = 4096
-
--- rank a is the position of post a, for all posts of the order
-abbrev pub Ranked : List ℕ → List ℕ → Type 0
-Ranked vs rank = (a : ℕ) → a < length vs → (1 ≤ getD rank a 0) × (getD rank a 0 ≤ length vs) × (post vs (getD rank a 0) ≡ a)
 
 -- k posts from a on, along the contour: each is the right neighbour of the one before
 unfoldable pub path : List ℕ → ℕ → ℕ → List ℕ

@@ -2,6 +2,11 @@
 ghost use mathlib.Core.Path.{_≡_};
 ghost use Prim.Native.Nat.{ℕ, _+_, _*_, _-_, _/_, _≤_, _<_};
 ghost use lib.ListN.{length, getD, set};
+ghost use lib.Seq.{slice};
+ghost use mathlib.Core.Bool.{cond, not, _&&_};
+ghost use lib.Dec.{leb};
+ghost use Rattle.words.specs.Lists.{lastOf, count};
+ghost use Rattle.engine.specs.Found.{upTo, opens};
 ghost use Rattle.engine.specs.Arrays.{bias, path, walk, along, Below, covered, hung, Fits, dropOf, riseOf, Ready, Over};
 
 // The new post's offset from w_p, with w_q `far` from it: a signed difference of heights, and half of an even sum.
@@ -101,4 +106,61 @@ fn place_over(
     two(off, v, d, q, far - d);
     two(left, v, p, q, v);
     two(right, p, v, v, q);
+}
+
+// Post a stands in one of the first k positions: it is placed at stage k.
+fn is_placed(rank: &[u16], a: u16, k: usize) -> bool
+    requires { ⌜ a < length (now rank) ⌝ }
+    ensures { λ r. ⌜ r ≡ upTo (now (rank .entry)) k a ⌝ }
+{
+    let i = words::number(a);
+    words::number(rank[i]) <= k
+}
+
+fn one_if_placed(rank: &[u16], a: u16, k: usize) -> usize
+    requires { ⌜ a < length (now rank) ⌝ }
+    ensures { λ r. ⌜ (r ≡ cond (upTo (now (rank .entry)) k a) 1 0) × (r ≤ 1) ⌝ }
+{
+    if is_placed(rank, a, k) { 1 } else { 0 }
+}
+
+// How many of the entries from b to e are placed at stage k.
+fn placed_among(ents: &[u16], b: usize, e: usize, rank: &[u16], k: usize) -> usize
+    requires { ⌜ (b ≤ e) × (e ≤ length (now ents)) × ((j : ℕ) → b ≤ j → j < e → getD (now ents) j 0 < length (now rank)) ⌝ }
+    ensures { λ r. ⌜ r ≡ count (upTo (now (rank .entry)) k) (slice b e (now (ents .entry))) ⌝ }
+{
+    let mut c = 0;
+    let mut i = b;
+    while i < e {
+        c += one_if_placed(rank, ents[i], k);
+        i += 1;
+    }
+    c
+}
+
+fn begins(before: bool, here: bool) -> bool
+    ensures { λ r. ⌜ r ≡ (not before && here) ⌝ }
+{
+    if before {
+        return false;
+    }
+    here
+}
+
+// Where a run begins among the entries from b to e, read around: the first placed entry after one that is not placed; v1 if there is none.
+fn run_begins(ents: &[u16], b: usize, e: usize, rank: &[u16], k: usize, v1: u16) -> u16
+    requires { ⌜ (b < e) × (e ≤ length (now ents)) × ((j : ℕ) → b ≤ j → j < e → getD (now ents) j 0 < length (now rank)) ⌝ }
+    ensures { λ r. ⌜ r ≡ opens (upTo (now (rank .entry)) k) v1 (upTo (now (rank .entry)) k (getD (now (ents .entry)) (e - 1) 0)) (slice b e (now (ents .entry))) ⌝ }
+{
+    let mut before = is_placed(rank, ents[e - 1], k);
+    let mut i = b;
+    while i < e {
+        let here = is_placed(rank, ents[i], k);
+        if begins(before, here) {
+            return ents[i];
+        }
+        before = here;
+        i += 1;
+    }
+    v1
 }
