@@ -4,5 +4,6 @@ pub mod Stepped
 pub mod Paths
 pub mod Made
 pub mod Opens
+pub mod Found
 pub mod Along
 pub mod Shown
