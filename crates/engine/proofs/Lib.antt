@@ -7,3 +7,4 @@ pub mod Opens
 pub mod Found
 pub mod Along
 pub mod Shown
+pub mod Next

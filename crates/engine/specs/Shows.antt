@@ -2,11 +2,12 @@
 use Prim.Native.Nat.{ℕ, _+_, _≤_, _<_}
 use mathlib.Core.Path.{_≡_}
 use mathlib.Core.List.{List, [], _∷_}
-use lib.ListN.{length, getD}
+use lib.ListN.{length, getD, take}
 use Rattle.words.specs.Lists.{In}
 use Rattle.words.specs.Positions.{post}
 use Rattle.words.proofs.Lists.{Adj}
-use Rattle.placing.specs.Stages.{Stage}
+use Rattle.rings.specs.Held.{held}
+use Rattle.placing.specs.Stages.{Stage, stage}
 use Rattle.engine.specs.Arrays.{bias}
 
 pub record Shows (t : Stage) (ys off cover left right : List ℕ) : Type 0 where
@@ -29,3 +30,8 @@ pub record Room (n : ℕ) (ys off cover left right : List ℕ) : Type 0 where
   pub of-cover : n ≤ length cover
   pub of-left : n ≤ length left
   pub of-right : n ≤ length right
+
+-- the arrays hold stage k of an accepted block, with room for all its posts
+pub record Holds (at ents vs : List ℕ) (k : ℕ) (ys off cover left right : List ℕ) : Type 0 where
+  pub shows : Shows (stage (held at ents) (take k vs)) ys off cover left right
+  pub room : Room (length vs) ys off cover left right

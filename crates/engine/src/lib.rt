@@ -6,7 +6,8 @@ ghost use lib.Seq.{slice};
 ghost use mathlib.Core.Bool.{cond, not, _&&_};
 ghost use lib.Dec.{leb};
 ghost use Rattle.words.specs.Lists.{lastOf, count};
-ghost use Rattle.engine.specs.Found.{upTo, opens};
+ghost use Rattle.engine.specs.Found.{upTo, opens, Accepted};
+ghost use Rattle.engine.specs.Shows.{Holds};
 ghost use Rattle.engine.specs.Arrays.{bias, path, walk, along, Below, covered, hung, Fits, dropOf, riseOf, Ready, Over};
 
 // The new post's offset from w_p, with w_q `far` from it: a signed difference of heights, and half of an even sum.
@@ -163,4 +164,29 @@ fn run_begins(ents: &[u16], b: usize, e: usize, rank: &[u16], k: usize, v1: u16)
         i += 1;
     }
     v1
+}
+
+// From stage k to stage k + 1 of an accepted block: the post in position k + 1 is placed.
+pub fn place_next(
+    at: &[u16],
+    ents: &[u16],
+    vs: &[u16],
+    rank: &[u16],
+    k: usize,
+    ys: &mut [u16],
+    off: &mut [u16],
+    cover: &mut [u16],
+    left: &mut [u16],
+    right: &mut [u16],
+)
+    requires { ⌜ Accepted (now at) (now ents) (now vs) (now rank) × (3 ≤ k) × (k < length (now vs)) × Holds (now at) (now ents) (now vs) k (now ys) (now off) (now cover) (now left) (now right) ⌝ }
+    ensures { λ r. ⌜ Holds (now (at .entry)) (now (ents .entry)) (now (vs .entry)) (k + 1) (now (ys .exit)) (now (off .exit)) (now (cover .exit)) (now (left .exit)) (now (right .exit)) ⌝ }
+{
+    let v = vs[k];
+    let j = words::number(v);
+    let b = words::number(at[j]);
+    let e = words::number(at[j + 1]);
+    let p = run_begins(ents, b, e, rank, k, vs[0]);
+    let m = placed_among(ents, b, e, rank, k);
+    place_over(v, p, m, ys, off, cover, left, right);
 }
