@@ -8,3 +8,4 @@ pub mod Found
 pub mod Along
 pub mod Shown
 pub mod Next
+pub mod Third

@@ -1,6 +1,7 @@
 -- How the engine holds a stage, in arrays by name: no post is moved at a step, since differences stay.
 use Prim.Native.Nat.{ℕ, _+_, _≤_, _<_}
 use mathlib.Core.Path.{_≡_}
+use mathlib.Core.Logic.{_≢_}
 use mathlib.Core.List.{List, [], _∷_}
 use lib.ListN.{length, getD, take}
 use Rattle.words.specs.Lists.{In}
@@ -30,6 +31,17 @@ pub record Room (n : ℕ) (ys off cover left right : List ℕ) : Type 0 where
   pub of-cover : n ≤ length cover
   pub of-left : n ≤ length left
   pub of-right : n ≤ length right
+
+-- three posts that differ, and have room
+pub record Corners (v1 v2 v3 : ℕ) (ys off cover left right : List ℕ) : Type 0 where
+  pub n : ℕ
+  pub room : Room n ys off cover left right
+  pub below1 : v1 < n
+  pub below2 : v2 < n
+  pub below3 : v3 < n
+  pub apart12 : v1 ≢ v2
+  pub apart13 : v1 ≢ v3
+  pub apart23 : v2 ≢ v3
 
 -- the arrays hold stage k of an accepted block, with room for all its posts
 pub record Holds (at ents vs : List ℕ) (k : ℕ) (ys off cover left right : List ℕ) : Type 0 where

@@ -7,7 +7,8 @@ ghost use mathlib.Core.Bool.{cond, not, _&&_};
 ghost use lib.Dec.{leb};
 ghost use Rattle.words.specs.Lists.{lastOf, count};
 ghost use Rattle.engine.specs.Found.{upTo, opens, Accepted};
-ghost use Rattle.engine.specs.Shows.{Holds};
+ghost use Rattle.placing.specs.Stages.{third};
+ghost use Rattle.engine.specs.Shows.{Shows, Room, Corners, Holds};
 ghost use Rattle.engine.specs.Arrays.{bias, path, walk, along, Below, covered, hung, Fits, dropOf, riseOf, Ready, Over};
 
 // The new post's offset from w_p, with w_q `far` from it: a signed difference of heights, and half of an even sum.
@@ -189,4 +190,59 @@ pub fn place_next(
     let p = run_begins(ents, b, e, rank, k, vs[0]);
     let m = placed_among(ents, b, e, rank, k);
     place_over(v, p, m, ys, off, cover, left, right);
+}
+
+// Three stores, the third last.
+fn three(s: &mut [u16], a: u16, x: u16, b: u16, y: u16, c: u16, z: u16)
+    requires { ⌜ (a < length (now s)) × (b < length (now s)) × (c < length (now s)) ⌝ }
+    ensures { λ r. ⌜ now (s .exit) ≡ set (set (set (now (s .entry)) a x) b y) c z ⌝ }
+{
+    two(s, a, x, b, y);
+    let i = words::number(c);
+    s[i] = z;
+}
+
+// Stage 3: v1 at (0,0), v3 at (1,1), v2 at (2,0).
+fn start(
+    v1: u16,
+    v2: u16,
+    v3: u16,
+    ys: &mut [u16],
+    off: &mut [u16],
+    cover: &mut [u16],
+    left: &mut [u16],
+    right: &mut [u16],
+)
+    requires { ⌜ Corners v1 v2 v3 (now ys) (now off) (now cover) (now left) (now right) ⌝ }
+    ensures { λ r. ⌜ Shows (third v1 v2 v3) (now (ys .exit)) (now (off .exit)) (now (cover .exit)) (now (left .exit)) (now (right .exit)) ⌝ }
+{
+    three(ys, v1, 0, v2, 0, v3, 1);
+    three(off, v1, 0, v2, 1, v3, 1);
+    three(cover, v1, v1, v2, v2, v3, v3);
+    three(left, v1, v1, v2, v3, v3, v1);
+    three(right, v1, v3, v2, v2, v3, v2);
+}
+
+// Stage k of an accepted block: stage 3, and one post after the other.
+pub fn reach(
+    at: &[u16],
+    ents: &[u16],
+    vs: &[u16],
+    rank: &[u16],
+    k: usize,
+    ys: &mut [u16],
+    off: &mut [u16],
+    cover: &mut [u16],
+    left: &mut [u16],
+    right: &mut [u16],
+)
+    requires { ⌜ Accepted (now at) (now ents) (now vs) (now rank) × (3 ≤ k) × (k ≤ length (now vs)) × Room (length (now vs)) (now ys) (now off) (now cover) (now left) (now right) ⌝ }
+    ensures { λ r. ⌜ Holds (now (at .entry)) (now (ents .entry)) (now (vs .entry)) k (now (ys .exit)) (now (off .exit)) (now (cover .exit)) (now (left .exit)) (now (right .exit)) ⌝ }
+{
+    start(vs[0], vs[1], vs[2], ys, off, cover, left, right);
+    let mut i = 3;
+    while i < k {
+        place_next(at, ents, vs, rank, i, ys, off, cover, left, right);
+        i += 1;
+    }
 }
