@@ -9,3 +9,4 @@ pub mod Along
 pub mod Shown
 pub mod Next
 pub mod Third
+pub mod Reading

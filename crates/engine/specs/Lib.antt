@@ -1,3 +1,4 @@
 pub mod Arrays
 pub mod Found
 pub mod Shows
+pub mod Columns

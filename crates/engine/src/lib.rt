@@ -8,6 +8,7 @@ ghost use lib.Dec.{leb};
 ghost use Rattle.words.specs.Lists.{lastOf, count};
 ghost use Rattle.engine.specs.Found.{upTo, opens, Accepted};
 ghost use Rattle.placing.specs.Stages.{third};
+ghost use Rattle.engine.specs.Columns.{until, laid, columnOf, settled, ColumnFits, Settles, Rooms, Line};
 ghost use Rattle.engine.specs.Shows.{Shows, Room, Corners, Holds};
 ghost use Rattle.engine.specs.Arrays.{bias, path, walk, along, Below, covered, hung, Fits, dropOf, riseOf, Ready, Over};
 
@@ -244,5 +245,50 @@ pub fn reach(
     while i < k {
         place_next(at, ents, vs, rank, i, ys, off, cover, left, right);
         i += 1;
+    }
+}
+
+// The columns of the contour, from v1 to v2, at most k posts.
+fn spread(right: &[u16], off: &[u16], xs: &mut [u16], v1: u16, v2: u16, k: usize)
+    requires { ⌜ Line (now right) (now off) (now xs) v1 v2 k ⌝ }
+    ensures { λ r. ⌜ now (xs .exit) ≡ laid (now (xs .entry)) (now (off .entry)) 0 (until (now (right .entry)) v1 v2 k) ⌝ }
+{
+    let mut a = v1;
+    let mut s: u16 = 0;
+    let mut i = 0;
+    while i < k {
+        let j = words::number(a);
+        s += off[j];
+        xs[j] = s;
+        if a == v2 {
+            return;
+        }
+        a = right[j];
+        i += 1;
+    }
+}
+
+// The column of post u, which c covers, from c's.
+fn column(xs: &[u16], off: &[u16], u: usize, c: usize) -> u16
+    requires { ⌜ (u < length (now xs)) × (u < length (now off)) × (c < length (now xs)) × ColumnFits (now xs) (now off) u c ⌝ }
+    ensures { λ r. ⌜ r ≡ columnOf (now (xs .entry)) (now (off .entry)) u c ⌝ }
+{
+    if c == u {
+        return xs[u];
+    }
+    xs[c] + off[u] - 4096
+}
+
+// The columns of covered posts, from position k down: a cover stands in a later position, so its column is known.
+fn settle(vs: &[u16], off: &[u16], cover: &[u16], xs: &mut [u16], k: usize)
+    requires { ⌜ Rooms (now vs) (now off) (now cover) (now xs) k × Settles (now xs) (now off) (now cover) (now vs) k ⌝ }
+    ensures { λ r. ⌜ now (xs .exit) ≡ settled (now (xs .entry)) (now (off .entry)) (now (cover .entry)) (now (vs .entry)) k ⌝ }
+{
+    let mut i = k;
+    while 0 < i {
+        i -= 1;
+        let u = words::number(vs[i]);
+        let c = words::number(cover[u]);
+        xs[u] = column(xs, off, u, c);
     }
 }
