@@ -10,3 +10,4 @@ pub mod Shown
 pub mod Next
 pub mod Third
 pub mod Reading
+pub mod Read

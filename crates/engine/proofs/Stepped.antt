@@ -146,6 +146,9 @@ module _ (G : List (List ℕ)) (t : Stage) (v : ℕ) (s : Step G t v) (K : Kept 
         let n = right-not b (inr i) in
         omega (arith, S .apart a b (was-right a b h), N .off-old b (n .0) (beyond-not b i) (n .2), m .by-two b (inr i), m .by-two a (adj-in-left a b (q ∷ Y) h)))
 
+    from-none : getD off' (post (t' .placed) 1) 0 ≡ 0
+    from-none = let n = left-not (post (t .placed) 1) (first-on G t v s K) in rw (first-kept G t v s K) (N .off-old (post (t .placed) 1) (n .0) (n .1) (n .2) ∙ S .from-none)
+
     left-is : (a b : ℕ) → Adj (t' .contour) a b → getD left' b 0 ≡ a
     left-is a b =
         neighbours a b
@@ -215,6 +218,7 @@ module _ (G : List (List ℕ)) (t : Stage) (v : ℕ) (s : Step G t v) (K : Kept 
         record {
           height = height;
           apart = apart;
+          from-none = from-none;
           left-is = left-is;
           right-is = right-is;
           first = first;

@@ -80,6 +80,7 @@ module _ (v1 v2 v3 : ℕ) (d12 : v1 ≢ v2) (d13 : v1 ≢ v3) (d23 : v2 ≢ v3) 
           height = height;
           apart = λ a b. by-adj a b (λ e f. rw (← e, ← f) (omega (arith, x1, x3, at3 off 0 1 1 (omega (arith, W)) (omega (arith, W)) (omega (arith, W)))))
               (λ e f. rw (← e, ← f) (omega (arith, x2, x3, at2 off 0 1 1 (omega (arith, W)) (omega (arith, W)) (omega (arith, W)))));
+          from-none = at1 off 0 1 1 (omega (arith, W)) (omega (arith, W)) (omega (arith, W));
           left-is = λ a b. by-adj a b (λ e f. rw (← e, ← f) (at3 left v1 v3 v1 (omega (arith, W)) (omega (arith, W)) (omega (arith, W)))) (λ e f. rw (← e, ← f) (at2 left v1 v3 v1 (omega (arith, W)) (omega (arith, W)) (omega (arith, W))));
           right-is = λ a b. by-adj a b (λ e f. rw (← e, ← f) (at1 right v3 v2 v2 (omega (arith, W)) (omega (arith, W)) (omega (arith, W)))) (λ e f. rw (← e, ← f) (at3 right v3 v2 v2 (omega (arith, W)) (omega (arith, W)) (omega (arith, W))));
           first = at1 left v1 v3 v1 (omega (arith, W)) (omega (arith, W)) (omega (arith, W));

@@ -49,3 +49,14 @@ pub record Line (right off xs : List ℕ) (v1 v2 k : ℕ) : Type 0 where
   pub of-off : Below (length off) (until right v1 v2 k)
   pub of-xs : Below (length xs) (until right v1 v2 k)
   pub fits : along off (until right v1 v2 k) ≤ 65535
+
+-- the arrays are ready to be read at stage k
+pub record Readable (vs off cover right xs : List ℕ) (k : ℕ) : Type 0 where
+  pub two : 2 ≤ length vs
+  pub line : Line right off xs (getD vs 0 0) (getD vs 1 0) (length vs)
+  pub rooms : Rooms vs off cover xs k
+  pub settles : Settles (laid xs off 0 (until right (getD vs 0 0) (getD vs 1 0) (length vs))) off cover vs k
+
+-- the columns that are read
+abbrev pub columnsOf : (vs off cover right xs : List ℕ) → ℕ → List ℕ
+columnsOf vs off cover right xs k = settled (laid xs off 0 (until right (getD vs 0 0) (getD vs 1 0) (length vs))) off cover vs k

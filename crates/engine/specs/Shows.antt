@@ -15,6 +15,7 @@ pub record Shows (t : Stage) (ys off cover left right : List ℕ) : Type 0 where
   pub height : (u : ℕ) → In u (t .placed) → getD ys u 0 ≡ t .y u
   -- two neighbours on the contour: how far apart they stand, and who is left of whom
   pub apart : (a b : ℕ) → Adj (t .contour) a b → t .x b ≡ t .x a + getD off b 0
+  pub from-none : getD off (post (t .placed) 1) 0 ≡ 0
   pub left-is : (a b : ℕ) → Adj (t .contour) a b → getD left b 0 ≡ a
   pub right-is : (a b : ℕ) → Adj (t .contour) a b → getD right a 0 ≡ b
   pub first : getD left (post (t .placed) 1) 0 ≡ post (t .placed) 1

@@ -8,7 +8,7 @@ ghost use lib.Dec.{leb};
 ghost use Rattle.words.specs.Lists.{lastOf, count};
 ghost use Rattle.engine.specs.Found.{upTo, opens, Accepted};
 ghost use Rattle.placing.specs.Stages.{third};
-ghost use Rattle.engine.specs.Columns.{until, laid, columnOf, settled, ColumnFits, Settles, Rooms, Line};
+ghost use Rattle.engine.specs.Columns.{until, laid, columnOf, settled, ColumnFits, Settles, Rooms, Line, Readable, columnsOf};
 ghost use Rattle.engine.specs.Shows.{Shows, Room, Corners, Holds};
 ghost use Rattle.engine.specs.Arrays.{bias, path, walk, along, Below, covered, hung, Fits, dropOf, riseOf, Ready, Over};
 
@@ -291,4 +291,13 @@ fn settle(vs: &[u16], off: &[u16], cover: &[u16], xs: &mut [u16], k: usize)
         let c = words::number(cover[u]);
         xs[u] = column(xs, off, u, c);
     }
+}
+
+// The columns of the posts placed at stage k.
+fn columns(vs: &[u16], off: &[u16], cover: &[u16], right: &[u16], xs: &mut [u16], k: usize)
+    requires { ⌜ Readable (now vs) (now off) (now cover) (now right) (now xs) k ⌝ }
+    ensures { λ r. ⌜ now (xs .exit) ≡ columnsOf (now (vs .entry)) (now (off .entry)) (now (cover .entry)) (now (right .entry)) (now (xs .entry)) k ⌝ }
+{
+    spread(right, off, xs, vs[0], vs[1], vs.len());
+    settle(vs, off, cover, xs, k);
 }
