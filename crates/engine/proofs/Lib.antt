@@ -11,3 +11,4 @@ pub mod Next
 pub mod Third
 pub mod Reading
 pub mod Read
+pub mod Writing

@@ -2,3 +2,4 @@ pub mod Arrays
 pub mod Found
 pub mod Shows
 pub mod Columns
+pub mod Sheet

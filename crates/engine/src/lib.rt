@@ -1,7 +1,11 @@
 // Reaching a stage in linear time, once a check has accepted the block: differences are kept, and no post is moved.
+use placing::Record;
+use placing::Standing;
 ghost use mathlib.Core.Path.{_≡_};
+ghost use mathlib.Core.List.{_++_};
 ghost use Prim.Native.Nat.{ℕ, _+_, _*_, _-_, _/_, _≤_, _<_};
-ghost use lib.ListN.{length, getD, set};
+ghost use lib.ListN.{length, getD, set, take, drop};
+ghost use Rattle.block.specs.Layout.{limit};
 ghost use lib.Seq.{slice};
 ghost use mathlib.Core.Bool.{cond, not, _&&_};
 ghost use lib.Dec.{leb};
@@ -9,6 +13,7 @@ ghost use Rattle.words.specs.Lists.{lastOf, count};
 ghost use Rattle.engine.specs.Found.{upTo, opens, Accepted};
 ghost use Rattle.placing.specs.Stages.{third};
 ghost use Rattle.engine.specs.Columns.{until, laid, columnOf, settled, ColumnFits, Settles, Rooms, Line, Readable, columnsOf};
+ghost use Rattle.engine.specs.Sheet.{pairs, recordBy};
 ghost use Rattle.engine.specs.Shows.{Shows, Room, Corners, Holds};
 ghost use Rattle.engine.specs.Arrays.{bias, path, walk, along, Below, covered, hung, Fits, dropOf, riseOf, Ready, Over};
 
@@ -300,4 +305,55 @@ fn columns(vs: &[u16], off: &[u16], cover: &[u16], right: &[u16], xs: &mut [u16]
 {
     spread(right, off, xs, vs[0], vs[1], vs.len());
     settle(vs, off, cover, xs, k);
+}
+
+// The first 2k entries of the buffer become x then y of v1, then of v2, up to vk. Entries beyond stay as they were.
+fn write_sheet(vs: &[u16], k: usize, xs: &[u16], ys: &[u16], buffer: &mut [u16])
+    requires { ⌜ (k ≤ length (now vs)) × (k ≤ limit) × (2 * k ≤ length (now buffer)) × ((i : ℕ) → i < k → (getD (now vs) i 0 < length (now xs)) × (getD (now vs) i 0 < length (now ys))) ⌝ }
+    ensures { λ r. ⌜ now (buffer .exit) ≡ pairs (now (xs .entry)) (now (ys .entry)) (take k (now (vs .entry))) ++ drop (2 * k) (now (buffer .entry)) ⌝ }
+{
+    let mut i = 0;
+    while i < k {
+        let u = words::number(vs[i]);
+        buffer[2 * i] = xs[u];
+        buffer[2 * i + 1] = ys[u];
+        i += 1;
+    }
+}
+
+// The record of post u at stage k.
+fn record_at(
+    rank: &[u16],
+    k: usize,
+    xs: &[u16],
+    ys: &[u16],
+    cover: &[u16],
+    left: &[u16],
+    right: &[u16],
+    u: u16,
+) -> Record
+    requires { ⌜ (u < length (now rank)) × (u < length (now xs)) × (u < length (now ys)) × (u < length (now cover)) × (u < length (now left)) × (u < length (now right)) ⌝ }
+    ensures { λ r. ⌜ r ≡ recordBy (now (rank .entry)) k (now (xs .entry)) (now (ys .entry)) (now (cover .entry)) (now (left .entry)) (now (right .entry)) u ⌝ }
+{
+    if !is_placed(rank, u, k) {
+        return Record {
+            x: 0,
+            y: 0,
+            standing: Standing::Waiting,
+        };
+    }
+    let i = words::number(u);
+    let c = cover[i];
+    if c == u {
+        return Record {
+            x: xs[i],
+            y: ys[i],
+            standing: Standing::OnContour(left[i], right[i]),
+        };
+    }
+    Record {
+        x: xs[i],
+        y: ys[i],
+        standing: Standing::Covered(c),
+    }
 }
