@@ -12,3 +12,4 @@ pub mod Third
 pub mod Reading
 pub mod Read
 pub mod Writing
+pub mod Given

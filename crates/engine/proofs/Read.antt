@@ -24,7 +24,7 @@ use Rattle.placing.proofs.Steps.{contours, stage-placed}
 use Rattle.plane.proofs.Sheet.{within}
 use Rattle.engine.specs.Arrays.{bias, along, Below}
 use Rattle.engine.specs.Found.{Accepted}
-use Rattle.engine.specs.Shows.{Shows, Room, Holds}
+use Rattle.engine.specs.Shows.{Shows, Room, Holds, Drawn}
 use Rattle.engine.specs.Columns.{until, laid, columnOf, settled, ColumnFits, Settles, Rooms, Line, Readable, columnsOf}
 use Rattle.engine.proofs.Kept.{Kept, kept-at}
 use Rattle.engine.proofs.Along.{Apart, below-all, along-list}
@@ -185,7 +185,7 @@ module _ (at ents vs rank : List ℕ) (A : Accepted at ents vs rank) (k : ℕ) (
     from-j : (m : ℕ) → j ≤ m → m < k → getD zs (getD vs m 0) 0 ≡ stage (held at ents) (take k vs) .x (getD vs m 0)
 
   -- the post that covers another one stands in a later position
-  later : (j : ℕ) → j < k → ¬ (In (getD vs j 0) (stage (held at ents) (take k vs) .contour)) → (m : ℕ) × (j < m) × (m < k) × (getD vs m 0 ≡ stage (held at ents) (take k vs) .cover (getD vs j 0))
+  pub later : (j : ℕ) → j < k → ¬ (In (getD vs j 0) (stage (held at ents) (take k vs) .contour)) → (m : ℕ) × (j < m) × (m < k) × (getD vs m 0 ≡ stage (held at ents) (take k vs) .cover (getD vs j 0))
   later j l q =
       let e = placed-is in
       let len : length (stage (held at ents) (take k vs) .placed) ≡ k = ap length e ∙ length-take-le k vs i in
@@ -277,3 +277,7 @@ module _ (at ents vs rank : List ℕ) (A : Accepted at ents vs rank) (k : ℕ) (
       let w = position u q in
       subst (λ (a : ℕ). getD (columnsOf vs off cover right xs k) a 0 ≡ stage (held at ents) (take k vs) .x a) (w .2)
       (read-all (laid xs off 0 (until right (getD vs 0 0) (getD vs 1 0) (length vs))) k (omega arith) start .1 (w .0) (w .1))
+
+  -- so they are drawn
+  pub drawn : (zs : List ℕ) → zs ≡ columnsOf vs off cover right xs k → length zs ≡ length xs → Drawn at ents vs k ys off cover left right zs
+  drawn zs e n = record { holds = H; column = rw e columns-are; roomy = omega (arith, room) }

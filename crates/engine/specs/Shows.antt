@@ -48,3 +48,9 @@ pub record Corners (v1 v2 v3 : ℕ) (ys off cover left right : List ℕ) : Type 
 pub record Holds (at ents vs : List ℕ) (k : ℕ) (ys off cover left right : List ℕ) : Type 0 where
   pub shows : Shows (stage (held at ents) (take k vs)) ys off cover left right
   pub room : Room (length vs) ys off cover left right
+
+-- and the columns of its posts
+pub record Drawn (at ents vs : List ℕ) (k : ℕ) (ys off cover left right xs : List ℕ) : Type 0 where
+  pub holds : Holds at ents vs k ys off cover left right
+  pub column : (u : ℕ) → In u (stage (held at ents) (take k vs) .placed) → getD xs u 0 ≡ stage (held at ents) (take k vs) .x u
+  pub roomy : length vs ≤ length xs

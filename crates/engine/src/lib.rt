@@ -11,10 +11,12 @@ ghost use mathlib.Core.Bool.{cond, not, _&&_};
 ghost use lib.Dec.{leb};
 ghost use Rattle.words.specs.Lists.{lastOf, count};
 ghost use Rattle.engine.specs.Found.{upTo, opens, Accepted};
-ghost use Rattle.placing.specs.Stages.{third};
+ghost use Rattle.rings.specs.Held.{held};
+ghost use Rattle.placing.specs.Stages.{third, stage};
+ghost use Rattle.placing.specs.Records.{recordOf, entriesOf};
 ghost use Rattle.engine.specs.Columns.{until, laid, columnOf, settled, ColumnFits, Settles, Rooms, Line, Readable, columnsOf};
 ghost use Rattle.engine.specs.Sheet.{pairs, recordBy};
-ghost use Rattle.engine.specs.Shows.{Shows, Room, Corners, Holds};
+ghost use Rattle.engine.specs.Shows.{Shows, Room, Corners, Holds, Drawn};
 ghost use Rattle.engine.specs.Arrays.{bias, path, walk, along, Below, covered, hung, Fits, dropOf, riseOf, Ready, Over};
 
 // The new post's offset from w_p, with w_q `far` from it: a signed difference of heights, and half of an even sum.
@@ -356,4 +358,69 @@ fn record_at(
         y: ys[i],
         standing: Standing::Covered(c),
     }
+}
+
+// Stage k of an accepted block with the columns of its posts.
+pub fn draw(
+    at: &[u16],
+    ents: &[u16],
+    vs: &[u16],
+    rank: &[u16],
+    k: usize,
+    ys: &mut [u16],
+    off: &mut [u16],
+    cover: &mut [u16],
+    left: &mut [u16],
+    right: &mut [u16],
+    xs: &mut [u16],
+)
+    requires { ⌜ Accepted (now at) (now ents) (now vs) (now rank) × (3 ≤ k) × (k ≤ length (now vs)) × Room (length (now vs)) (now ys) (now off) (now cover) (now left) (now right) × (length (now vs) ≤ length (now xs)) ⌝ }
+    ensures { λ r. ⌜ Drawn (now (at .entry)) (now (ents .entry)) (now (vs .entry)) k (now (ys .exit)) (now (off .exit)) (now (cover .exit)) (now (left .exit)) (now (right .exit)) (now (xs .exit)) ⌝ }
+{
+    reach(at, ents, vs, rank, k, ys, off, cover, left, right);
+    columns(vs, off, cover, right, xs, k);
+}
+
+// The sheet of stage k: its entries, and the buffer beyond as it was.
+pub fn sheet_at(
+    at: &[u16],
+    ents: &[u16],
+    vs: &[u16],
+    rank: &[u16],
+    k: usize,
+    ys: &mut [u16],
+    off: &mut [u16],
+    cover: &mut [u16],
+    left: &mut [u16],
+    right: &mut [u16],
+    xs: &mut [u16],
+    buffer: &mut [u16],
+)
+    requires { ⌜ Accepted (now at) (now ents) (now vs) (now rank) × (3 ≤ k) × (k ≤ length (now vs)) × Room (length (now vs)) (now ys) (now off) (now cover) (now left) (now right) × (length (now vs) ≤ length (now xs)) × (2 * k ≤ length (now buffer)) ⌝ }
+    ensures { λ r. ⌜ now (buffer .exit) ≡ entriesOf (stage (held (now (at .entry)) (now (ents .entry))) (take k (now (vs .entry)))) ++ drop (2 * k) (now (buffer .entry)) ⌝ }
+{
+    draw(at, ents, vs, rank, k, ys, off, cover, left, right, xs);
+    write_sheet(vs, k, xs, ys, buffer);
+}
+
+// The record of post u at stage k.
+pub fn post_at(
+    at: &[u16],
+    ents: &[u16],
+    vs: &[u16],
+    rank: &[u16],
+    k: usize,
+    u: u16,
+    ys: &mut [u16],
+    off: &mut [u16],
+    cover: &mut [u16],
+    left: &mut [u16],
+    right: &mut [u16],
+    xs: &mut [u16],
+) -> Record
+    requires { ⌜ Accepted (now at) (now ents) (now vs) (now rank) × (3 ≤ k) × (k ≤ length (now vs)) × Room (length (now vs)) (now ys) (now off) (now cover) (now left) (now right) × (length (now vs) ≤ length (now xs)) × (u < length (now vs)) ⌝ }
+    ensures { λ r. ⌜ r ≡ recordOf (stage (held (now (at .entry)) (now (ents .entry))) (take k (now (vs .entry)))) u ⌝ }
+{
+    draw(at, ents, vs, rank, k, ys, off, cover, left, right, xs);
+    record_at(rank, k, xs, ys, cover, left, right, u)
 }
