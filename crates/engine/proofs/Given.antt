@@ -1,0 +1,200 @@
+-- What is read from arrays with a stage and its columns: the sheet's entries and a post's record are the stage's.
+use Prim.Native.Nat.{ℕ, zero, suc, _+_, _*_, _-_, _≤_, _<_}
+use mathlib.Core.Path.{_≡_, refl, ap, sym, _∙_, subst, subst⁻¹}
+use mathlib.Core.Logic.{_⊎_, inl, inr}
+use mathlib.Core.Bool.{Bool, true, false, cond}
+use mathlib.Core.List.{List, [], _∷_, _++_, flatMap}
+use native.Mathlib.Omega.{arith}
+use lib.Dec.{eqb}
+use lib.ListN.{length, getD, take, drop}
+use lib.Seq.{getD-take}
+use borrow.Author.Tests.{eq-eqb, ne-eqb}
+use Rattle.words.specs.Lists.{In, mem, lastOf}
+use Rattle.words.specs.Positions.{post}
+use Rattle.words.proofs.Lists.{Head, Adj, Once, in-dec, in-head, adj-in-left, adj-tail, last-in}
+use Rattle.words.proofs.Tests.{is-true, is-false, in-mem, mem-in, place-in, once-different}
+use Rattle.words.proofs.Positions.{in-take}
+use Rattle.rings.specs.Held.{held}
+use Rattle.rings.proofs.Around.{After}
+use Rattle.order.proofs.Contour.{Contour}
+use Rattle.order.proofs.Sound.{Passes, passes-names}
+use Rattle.placing.specs.Stages.{Stage, stage}
+use Rattle.placing.specs.Records.{leftOf, rightOf, standing, recordOf, entriesOf}
+use Rattle.placing.specs.declared.Standing.{Standing}
+use Rattle.placing.specs.declared.Standing.the-variants.{Waiting, OnContour, Covered}
+use Rattle.placing.specs.declared.Record.{Record}
+use Rattle.placing.proofs.Steps.{contours, stage-placed}
+use Rattle.engine.specs.Found.{upTo, Accepted}
+use Rattle.engine.specs.Shows.{Shows, Room, Holds, Drawn}
+use Rattle.engine.specs.Sheet.{pairs, pickStanding, pickRecord, recordBy}
+use Rattle.engine.proofs.Found.{placed-by}
+use Rattle.engine.proofs.Kept.{Kept, kept-at}
+use Rattle.engine.proofs.Read.{later}
+
+-- ---- neighbours on a contour
+left-first : (x : ℕ) (l : List ℕ) (u : ℕ) → ¬ (In u l) → leftOf (x ∷ l) u ≡ u
+unfolding leftOf
+left-first x [] u n = refl
+left-first x (y ∷ l) u n = rw (ne-eqb y u (λ e. n (inl (sym e)))) (left-first y l u (λ i. n (inr i)))
+
+left-adj : (l : List ℕ) (a u : ℕ) → Once l → Adj l a u → leftOf l u ≡ a
+unfolding leftOf
+left-adj [] a u o h = absurd h
+left-adj (x ∷ []) a u o (inl h) = absurd (h .1)
+left-adj (x ∷ []) a u o (inr h) = absurd h
+left-adj (x ∷ y ∷ l) a u o (inl h) = rw (eq-eqb y u (h .1)) (h .0)
+left-adj (x ∷ y ∷ l) a u o (inr h) = rw (ne-eqb y u (λ e. o .1 .0 (rw (← e) at (adj-tail a u y l h)))) (left-adj (y ∷ l) a u (o .1) h)
+
+right-last : (x : ℕ) (l : List ℕ) → Once (x ∷ l) → rightOf (x ∷ l) (lastOf x l) ≡ lastOf x l
+unfolding rightOf
+right-last x [] o = refl
+right-last x (y ∷ l) o = rw (ne-eqb x (lastOf y l) (λ e. o .0 (subst⁻¹ (λ (a : ℕ). In a (y ∷ l)) e (last-in y l)))) (right-last y l (o .1))
+
+right-adj : (l : List ℕ) (u b : ℕ) → Once l → Adj l u b → rightOf l u ≡ b
+unfolding rightOf
+right-adj [] u b o h = absurd h
+right-adj (x ∷ []) u b o (inl h) = absurd (h .1)
+right-adj (x ∷ []) u b o (inr h) = absurd h
+right-adj (x ∷ y ∷ l) u b o (inl h) = rw (eq-eqb x u (h .0)) (h .1)
+right-adj (x ∷ y ∷ l) u b o (inr h) = rw (ne-eqb x u (λ e. o .0 (rw (← e) at (adj-in-left u b (y ∷ l) h)))) (right-adj (y ∷ l) u b (o .1) h)
+
+-- a post of a list is the first, or has a left neighbour; is the last, or has a right neighbour
+some-left : (x : ℕ) (l : List ℕ) (u : ℕ) → In u (x ∷ l) → (u ≡ x) ⊎ ((a : ℕ) × Adj (x ∷ l) a u)
+some-left x [] u (inl e) = inl e
+some-left x [] u (inr z) = absurd z
+some-left x (y ∷ l) u (inl e) = inl e
+some-left x (y ∷ l) u (inr i) = go (some-left y l u i)
+  where
+    go : (u ≡ y) ⊎ ((a : ℕ) × Adj (y ∷ l) a u) → (u ≡ x) ⊎ ((a : ℕ) × Adj (x ∷ y ∷ l) a u)
+    go (inl e) = inr (x, inl (refl, sym e))
+    go (inr w) = inr (w .0, inr (w .1))
+
+some-right : (x : ℕ) (l : List ℕ) (u : ℕ) → In u (x ∷ l) → (u ≡ lastOf x l) ⊎ ((b : ℕ) × Adj (x ∷ l) u b)
+some-right x [] u (inl e) = inl e
+some-right x [] u (inr z) = absurd z
+some-right x (y ∷ l) u (inl e) = inr (y, inl (sym e, refl))
+some-right x (y ∷ l) u (inr i) = go (some-right y l u i)
+  where
+    go : (u ≡ lastOf y l) ⊎ ((b : ℕ) × Adj (y ∷ l) u b) → (u ≡ lastOf y l) ⊎ ((b : ℕ) × Adj (x ∷ y ∷ l) u b)
+    go (inl e) = inl e
+    go (inr w) = inr (w .0, inr (w .1))
+
+-- ---- entries
+pairs-same : (xs ys : List ℕ) (f g : ℕ → ℕ) (l : List ℕ) → ((u : ℕ) → In u l → (getD xs u 0 ≡ f u) × (getD ys u 0 ≡ g u)) → pairs xs ys l ≡ flatMap (λ u. f u ∷ g u ∷ []) l
+unfolding pairs flatMap
+pairs-same xs ys f g [] h = refl
+pairs-same xs ys f g (u ∷ l) h = let e = h u (inl refl) in rw (e .0, e .1, pairs-same xs ys f g l (λ w i. h w (inr i))) refl
+
+module _ (at ents vs rank : List ℕ) (A : Accepted at ents vs rank) (k : ℕ) (h : 3 ≤ k) (i : k ≤ length vs)
+    (ys off cover left right xs : List ℕ) (D : Drawn at ents vs k ys off cover left right xs) where
+  abbrev G : List (List ℕ)
+  G = held at ents
+
+  abbrev S : Shows (stage (held at ents) (take k vs)) ys off cover left right
+  S = D .holds .shows
+
+  placed-is : stage (held at ents) (take k vs) .placed ≡ take k vs
+  placed-is = stage-placed G vs k h i
+
+  pub entries-are : pairs xs ys (take k vs) ≡ entriesOf (stage (held at ents) (take k vs))
+  unfolding entriesOf
+  entries-are =
+      ap (pairs xs ys) (sym placed-is)
+      ∙ pairs-same xs ys (stage (held at ents) (take k vs) .x) (stage (held at ents) (take k vs) .y) (stage (held at ents) (take k vs) .placed) (λ u q. (D .column u q, S .height u q))
+
+  C : Contour (After (held at ents)) (post vs 1) (post vs 2) (take k vs) (stage (held at ents) (take k vs) .contour)
+  C = contours G vs (A .passes) k h (omega (arith, A .passes .all))
+
+  v1-is : post (stage (held at ents) (take k vs) .placed) 1 ≡ post vs 1
+  v1-is = ap (λ (l : List ℕ). post l 1) placed-is ∙ getD-take k vs 0 0 (omega arith)
+
+  v2-is : post (stage (held at ents) (take k vs) .placed) 2 ≡ post vs 2
+  v2-is = ap (λ (l : List ℕ). post l 2) placed-is ∙ getD-take k vs 1 0 (omega arith)
+
+  left-at : (u : ℕ) → In u (stage (held at ents) (take k vs) .contour) → getD left u 0 ≡ leftOf (stage (held at ents) (take k vs) .contour) u
+  left-at u q = go (stage (held at ents) (take k vs) .contour) (C .first) (C .once) q (λ a. S .left-is a u)
+    where
+      go : (l : List ℕ) → Head l (post vs 1) → Once l → In u l → ((a : ℕ) → Adj l a u → getD left u 0 ≡ a) → getD left u 0 ≡ leftOf l u
+      go [] f o z s = absurd z
+      go (x ∷ l) f o j s = by (some-left x l u j)
+        where
+          by : (u ≡ x) ⊎ ((a : ℕ) × Adj (x ∷ l) a u) → getD left u 0 ≡ leftOf (x ∷ l) u
+          by (inl e) =
+              let v : u ≡ post (stage (held at ents) (take k vs) .placed) 1 = e ∙ f ∙ sym v1-is in
+              subst⁻¹ (λ (a : ℕ). getD left a 0 ≡ a) v (S .first) ∙ sym (left-first x l u (λ m. o .0 (rw e at m)))
+          by (inr w) = s (w .0) (w .1) ∙ sym (left-adj (x ∷ l) (w .0) u o (w .1))
+
+  right-at : (u : ℕ) → In u (stage (held at ents) (take k vs) .contour) → getD right u 0 ≡ rightOf (stage (held at ents) (take k vs) .contour) u
+  right-at u q = go (stage (held at ents) (take k vs) .contour) (C .last) (C .once) q (λ b. S .right-is u b)
+    where
+      go : (l : List ℕ) → lastOf (post vs 1) l ≡ post vs 2 → Once l → In u l → ((b : ℕ) → Adj l u b → getD right u 0 ≡ b) → getD right u 0 ≡ rightOf l u
+      go [] f o z s = absurd z
+      go (x ∷ l) f o j s = by (some-right x l u j)
+        where
+          by : (u ≡ lastOf x l) ⊎ ((b : ℕ) × Adj (x ∷ l) u b) → getD right u 0 ≡ rightOf (x ∷ l) u
+          by (inl e) =
+              let v : u ≡ post (stage (held at ents) (take k vs) .placed) 2 = e ∙ f ∙ sym v2-is in
+              subst⁻¹ (λ (a : ℕ). getD right a 0 ≡ a) v (S .last) ∙ subst⁻¹ (λ (a : ℕ). a ≡ rightOf (x ∷ l) a) e (sym (right-last x l o))
+          by (inr w) = s (w .0) (w .1) ∙ sym (right-adj (x ∷ l) u (w .0) o (w .1))
+
+  -- nobody covers himself
+  other : (u : ℕ) → In u (stage (held at ents) (take k vs) .placed) → ¬ (In u (stage (held at ents) (take k vs) .contour)) → ¬ (getD cover u 0 ≡ u)
+  other u q n e =
+      let w = in-take k vs u (subst (In u) placed-is q) in
+      let l = later at ents vs rank A k h i ys off cover left right (D .holds) xs (D .roomy) (w .0) (w .1) (λ c. n (subst (λ (a : ℕ). In a (stage (held at ents) (take k vs) .contour)) (w .3) c)) in
+      let f : getD vs (l .0) 0 ≡ getD vs (w .0) 0 = l .3 ∙ ap (stage (held at ents) (take k vs) .cover) (w .3) ∙ sym (S .covers u q n) ∙ e ∙ sym (w .3) in
+      let d = once-different vs (passes-names G vs (A .passes) .once) (l .0) (w .0) (omega (arith, l .2)) (w .2) f in
+      omega (arith, l .1)
+
+  stands : (u : ℕ) → In u (stage (held at ents) (take k vs) .placed)
+      → pickStanding (eqb (getD cover u 0) u) (OnContour (getD left u 0) (getD right u 0)) (Covered (getD cover u 0)) ≡ standing (stage (held at ents) (take k vs)) u
+  unfolding standing
+  stands u q = go (in-dec u (stage (held at ents) (take k vs) .contour))
+    where
+      go : Dec (In u (stage (held at ents) (take k vs) .contour))
+          → pickStanding (eqb (getD cover u 0) u) (OnContour (getD left u 0) (getD right u 0)) (Covered (getD cover u 0))
+          ≡ cond (mem (stage (held at ents) (take k vs) .contour) u) (OnContour (leftOf (stage (held at ents) (take k vs) .contour) u) (rightOf (stage (held at ents) (take k vs) .contour) u))
+          (cond (mem (stage (held at ents) (take k vs) .placed) u) (Covered (stage (held at ents) (take k vs) .cover u)) Waiting)
+      go (yes c) = rw (is-true (mem (stage (held at ents) (take k vs) .contour) u) (in-mem (stage (held at ents) (take k vs) .contour) u c), eq-eqb (getD cover u 0) u (S .bare u c), left-at u c, right-at u c) refl
+      go (no n) =
+          rw (
+            is-false (mem (stage (held at ents) (take k vs) .contour) u) (λ m. n (mem-in (stage (held at ents) (take k vs) .contour) u m)),
+            is-true (mem (stage (held at ents) (take k vs) .placed) u) (in-mem (stage (held at ents) (take k vs) .placed) u q),
+            ne-eqb (getD cover u 0) u (other u q n),
+            S .covers u q n,
+          ) refl
+
+  pub record-is : (u : ℕ) → u < length vs → recordBy rank k xs ys cover left right u ≡ recordOf (stage (held at ents) (take k vs)) u
+  unfolding recordOf
+  record-is u l = go (in-dec u (stage (held at ents) (take k vs) .placed))
+    where
+      t : mem (stage (held at ents) (take k vs) .placed) u ≡ upTo rank k u
+      t = ap (λ (r : List ℕ). mem r u) placed-is ∙ placed-by vs rank k (passes-names G vs (A .passes) .once) (A .ranked) u l
+
+      go : Dec (In u (stage (held at ents) (take k vs) .placed)) → recordBy rank k xs ys cover left right u
+          ≡ cond (mem (stage (held at ents) (take k vs) .placed) u)
+          (record { x = stage (held at ents) (take k vs) .x u; y = stage (held at ents) (take k vs) .y u; standing = standing (stage (held at ents) (take k vs)) u }) (record { x = 0; y = 0; standing = Waiting })
+      go (yes q) =
+          let e = is-true (mem (stage (held at ents) (take k vs) .placed) u) (in-mem (stage (held at ents) (take k vs) .placed) u q) in
+          rw (← t, e, D .column u q, S .height u q, stands u q) refl
+      go (no n) = rw (← t, is-false (mem (stage (held at ents) (take k vs) .placed) u) (λ m. n (mem-in (stage (held at ents) (take k vs) .placed) u m))) refl
+
+  -- the posts placed have room
+  pub names-fit : (j : ℕ) → j < k → (getD vs j 0 < length xs) × (getD vs j 0 < length ys)
+  names-fit j l =
+      let b = passes-names G vs (A .passes) .below (getD vs j 0) (place-in vs j (omega arith)) in
+      (omega (arith, A .passes .all, D .roomy), omega (arith, A .passes .all, D .holds .room .of-ys))
+
+  pub sheet-is : (B B' : List ℕ) → B' ≡ pairs xs ys (take k vs) ++ drop (2 * k) B → B' ≡ entriesOf (stage (held at ents) (take k vs)) ++ drop (2 * k) B
+  sheet-is B B' e = e ∙ ap (λ (l : List ℕ). l ++ drop (2 * k) B) entries-are
+
+  pub record-ready : (u : ℕ) → u < length vs → (u < length rank) × (u < length xs) × (u < length ys) × (u < length cover) × (u < length left) × (u < length right)
+  record-ready u l =
+      let W = D .holds .room in (
+        omega (arith, A .in-rank),
+        omega (arith, D .roomy),
+        omega (arith, W .of-ys),
+        omega (arith, W .of-cover),
+        omega (arith, W .of-left),
+        omega (arith, W .of-right),
+      )

@@ -1,0 +1,64 @@
+use borrow.Author.Needs.{needs}
+use Rattle.engine.proofs.sheet_at.Statement.{statement}
+use Rattle.engine.proofs.sheet_at.Tie as tie
+use Rattle.engine.proofs.sheet_at.Reads as reads
+use Rattle.engine.proofs.sheet_at.Lts as lts
+use Rattle.engine.proofs.draw.Reads as draw-reads
+use Rattle.engine.proofs.write_sheet.Reads as write-sheet-reads
+use native.Mathlib.Omega.{arith}
+use Rattle.engine.proofs.Given.{names-fit, sheet-is}
+
+-- src/lib.rt:377:5
+draw-requires : tie.Need-draw-requires
+draw-requires c κs = search needs
+
+-- src/lib.rt:378:5
+write-sheet-requires : tie.Need-write-sheet-requires
+write-sheet-requires c κs = (c .before .before .before .before .before .before .before .before .before .before .before .before .before .before .before .before .before .before .before .before .before .before .before .before .before .before .before .before .before .before .before .before .before .pre .2, omega (arith, c .before .before .before .before .before .before .before .before .before .before .before .before .before .before .before .before .before .before .before .before .before .before .before .before .before .before .before .before .before .before .before .before .before .pre .2, c .before .before .before .before .before .before .before .before .before .before .before .before .before .before .before .before .before .before .before .before .before .before .before .before .before .before .before .before .before .before .before .before .before .pre .0 .most), c .before .before .before .before .before .before .before .before .before .before .before .before .before .before .before .before .before .before .before .before .before .before .before .before .before .before .before .before .before .before .before .before .before .pre .5, names-fit _ _ _ _ (c .before .before .before .before .before .before .before .before .before .before .before .before .before .before .before .before .before .before .before .before .before .before .before .before .before .before .before .before .before .before .before .before .before .pre .0) _ (c .before .before .before .before .before .before .before .before .before .before .before .before .before .before .before .before .before .before .before .before .before .before .before .before .before .before .before .before .before .before .before .before .before .pre .1) (c .before .before .before .before .before .before .before .before .before .before .before .before .before .before .before .before .before .before .before .before .before .before .before .before .before .before .before .before .before .before .before .before .before .pre .2) _ _ _ _ _ _ (c .before .before .before .before .before .before .before .before .before .before .before .before .before .before .before .draw .ensures))
+
+-- src/lib.rt:373:1
+same-length : tie.Need-same-length
+same-length c = search needs
+
+-- src/lib.rt:373:1
+same-length-2 : tie.Need-same-length-2
+same-length-2 c = search needs
+
+-- src/lib.rt:373:1
+same-length-3 : tie.Need-same-length-3
+same-length-3 c = search needs
+
+-- src/lib.rt:373:1
+same-length-4 : tie.Need-same-length-4
+same-length-4 c = search needs
+
+-- src/lib.rt:373:1
+same-length-5 : tie.Need-same-length-5
+same-length-5 c = search needs
+
+-- src/lib.rt:373:1
+same-length-6 : tie.Need-same-length-6
+same-length-6 c = search needs
+
+-- src/lib.rt:373:1
+same-length-7 : tie.Need-same-length-7
+same-length-7 c = search needs
+
+-- src/lib.rt:373:1
+returns : tie.Need-returns
+returns c = sheet-is _ _ _ _ (c .before .before .before .before .before .before .before .before .before .before .before .before .before .before .before .before .before .before .before .before .before .before .before .before .before .before .before .before .before .before .before .before .before .before .before .before .pre .0) _ (c .before .before .before .before .before .before .before .before .before .before .before .before .before .before .before .before .before .before .before .before .before .before .before .before .before .before .before .before .before .before .before .before .before .before .before .before .pre .1) (c .before .before .before .before .before .before .before .before .before .before .before .before .before .before .before .before .before .before .before .before .before .before .before .before .before .before .before .before .before .before .before .before .before .before .before .before .pre .2) _ _ _ _ _ _ (c .before .before .before .before .before .before .before .before .before .before .before .before .before .before .before .before .before .before .draw .ensures) _ _ (c .before .before .write-sheet .ensures)
+
+pub sheet-at-spec : {M : Type 1} → statement M
+sheet-at-spec =
+    tie.close
+    (tie.spec
+    draw-requires
+    write-sheet-requires
+    same-length
+    same-length-2
+    same-length-3
+    same-length-4
+    same-length-5
+    same-length-6
+    same-length-7
+    returns)
