@@ -7,3 +7,4 @@ pub mod Rows
 pub mod Sounds
 pub mod Accepts
 pub mod Demanded
+pub mod Calls

@@ -2,16 +2,21 @@
 ghost use mathlib.Core.Path.{_≡_};
 ghost use mathlib.Core.List.{_++_};
 ghost use Prim.Native.Nat.{ℕ, _+_, _*_, _-_, _≤_, _<_};
-ghost use lib.ListN.{length, getD, take};
+ghost use lib.ListN.{length, getD, take, drop};
 ghost use Rattle.block.specs.Layout.{limit, entries};
 ghost use Rattle.block.specs.Block.{posts, order};
+ghost use Rattle.rings.specs.Held.{held};
 ghost use Rattle.order.specs.Held.{Ranked};
+ghost use Rattle.placing.specs.Stages.{stage};
+ghost use Rattle.placing.specs.Records.{recordOf, entriesOf};
+ghost use Rattle.engine.specs.Found.{Accepted};
 ghost use Rattle.unit.specs.Lamp.{positionRows};
-ghost use Rattle.unit.specs.Replies.{accepted, given, checkReply};
-ghost use Rattle.unit.specs.Refusals.{numberOf, placeOf, replyOf};
+ghost use Rattle.unit.specs.Replies.{accepted, given, checkReply, sheetReply, bufferAfter, postReply};
+ghost use Rattle.unit.specs.Refusals.{numberOf, placeOf, replyOf, postedOf};
 ghost use Rattle.unit.specs.Held.{headRows, listRows, ringRows, rowsFrom, Headed, Wide, Holds, Laid, Entered, Ringed, Ready};
 use block::Block;
 use order::Fit;
+use placing::Record;
 
 // Why a call is refused, with the place where there is one: a position, or a name.
 pub enum Refusal {
@@ -270,4 +275,126 @@ pub fn check(s: &[u8]) -> Answer
     let mut ents = no_entries();
     let mut rank = no_names();
     check_into(s, &mut vs, &mut ds, &mut at, &mut ents, &mut rank)
+}
+
+// The sheet of stage k of an accepted block, into the buffer.
+fn draw_sheet(at: &[u16], ents: &[u16], vs: &[u16], rank: &[u16], k: usize, buffer: &mut [u16])
+    requires { ⌜ Accepted (now at) (now ents) (now vs) (now rank) × (3 ≤ k) × (k ≤ length (now vs)) × (2 * k ≤ length (now buffer)) ⌝ }
+    ensures { λ r. ⌜ now (buffer .exit) ≡ entriesOf (stage (held (now (at .entry)) (now (ents .entry))) (take k (now (vs .entry)))) ++ drop (2 * k) (now (buffer .entry)) ⌝ }
+{
+    let mut ys = no_names();
+    let mut off = no_names();
+    let mut cover = no_names();
+    let mut left = no_names();
+    let mut right = no_names();
+    let mut xs = no_names();
+    engine::sheet_at(
+        at,
+        ents,
+        vs,
+        rank,
+        k,
+        &mut ys,
+        &mut off,
+        &mut cover,
+        &mut left,
+        &mut right,
+        &mut xs,
+        buffer,
+    );
+}
+
+// The record of post u at stage k of an accepted block.
+fn draw_post(at: &[u16], ents: &[u16], vs: &[u16], rank: &[u16], k: usize, u: u16) -> Record
+    requires { ⌜ Accepted (now at) (now ents) (now vs) (now rank) × (3 ≤ k) × (k ≤ length (now vs)) × (u < length (now vs)) ⌝ }
+    ensures { λ r. ⌜ r ≡ recordOf (stage (held (now (at .entry)) (now (ents .entry))) (take k (now (vs .entry)))) u ⌝ }
+{
+    let mut ys = no_names();
+    let mut off = no_names();
+    let mut cover = no_names();
+    let mut left = no_names();
+    let mut right = no_names();
+    let mut xs = no_names();
+    engine::post_at(
+        at,
+        ents,
+        vs,
+        rank,
+        k,
+        u,
+        &mut ys,
+        &mut off,
+        &mut cover,
+        &mut left,
+        &mut right,
+        &mut xs,
+    )
+}
+
+// sheet: any bytes, any stage, any buffer; accepted with the count 2k of entries written, or the refusal that the table fixes, with the buffer
+// as it came.
+pub fn sheet(s: &[u8], k: usize, buffer: &mut [u16]) -> Answer
+    ensures { λ r. ⌜ (replyOf r ≡ sheetReply (now (s .entry)) k (now (buffer .entry))) × (now (buffer .exit) ≡ bufferAfter (now (s .entry)) k (now (buffer .entry))) ⌝ }
+{
+    let mut vs = no_names();
+    let mut ds = no_names();
+    let mut at = no_places();
+    let mut ents = no_entries();
+    let mut rank = no_names();
+    let r = check_into(s, &mut vs, &mut ds, &mut at, &mut ents, &mut rank);
+    let Answer::Accepted(posts) = r else {
+        return r;
+    };
+    let n = words::number(posts);
+    if k < 3 {
+        return Answer::Refused(Refusal::Stage);
+    }
+    if n < k {
+        return Answer::Refused(Refusal::Stage);
+    }
+    if buffer.len() < 2 * k {
+        return Answer::Refused(Refusal::Room);
+    }
+    let b = Block { n };
+    let e = b.entries();
+    let p = n + 1;
+    draw_sheet(&at[..p], &ents[..e], &vs[..n], &rank, k, buffer);
+    Answer::Accepted((2 * k) as u16)
+}
+
+// post's reply: the post's record, or the refusal.
+pub enum Posted {
+    Accepted(Record),
+    Refused(Refusal),
+}
+
+// post: any bytes, any stage, any name; accepted with the post's record at that stage, or the refusal that the table fixes.
+pub fn post(s: &[u8], k: usize, u: usize) -> Posted
+    ensures { λ r. ⌜ postedOf r ≡ postReply (now (s .entry)) k u ⌝ }
+{
+    let mut vs = no_names();
+    let mut ds = no_names();
+    let mut at = no_places();
+    let mut ents = no_entries();
+    let mut rank = no_names();
+    let r = check_into(s, &mut vs, &mut ds, &mut at, &mut ents, &mut rank);
+    match r {
+        Answer::Refused(f) => Posted::Refused(f),
+        Answer::Accepted(posts) => {
+            let n = words::number(posts);
+            if k < 3 {
+                return Posted::Refused(Refusal::Stage);
+            }
+            if n < k {
+                return Posted::Refused(Refusal::Stage);
+            }
+            if n <= u {
+                return Posted::Refused(Refusal::Name);
+            }
+            let b = Block { n };
+            let e = b.entries();
+            let p = n + 1;
+            Posted::Accepted(draw_post(&at[..p], &ents[..e], &vs[..n], &rank, k, u as u16))
+        }
+    }
 }

@@ -1,0 +1,129 @@
+-- The replies of sheet and post, by what check answered and the code compared; and the buffer after a sheet call.
+use Prim.Native.Nat.{ℕ, _+_, _*_, _-_, _≤_, _<_}
+use mathlib.Core.Path.{_≡_, refl, sym, ap, _∙_, subst, subst⁻¹}
+use mathlib.Core.Bool.{Bool, true, false, not, _||_}
+use mathlib.Core.List.{List, [], _∷_, _++_}
+use native.Mathlib.Omega.{arith}
+use lib.Dec.{ltb, leb}
+use lib.ListN.{length, take, drop}
+use borrow.Author.Tests.{lt-ltb, le-ltb, le-leb, lt-leb}
+use Rattle.block.specs.Layout.{limit, entries}
+use Rattle.block.specs.Block.{posts, order, lists}
+use Rattle.rings.specs.Held.{held}
+use Rattle.order.specs.Held.{Ranked}
+use Rattle.order.proofs.Sound.{Passes}
+use Rattle.placing.specs.Stages.{stage}
+use Rattle.placing.specs.Records.{recordOf, entriesOf}
+use Rattle.placing.specs.declared.Record.{Record}
+use Rattle.engine.specs.Found.{Accepted}
+use Rattle.unit.specs.Lamp.{Row, checkRows, stageRow, roomRow, nameRow, sheetRows, postRows}
+use Rattle.unit.specs.Replies.{Reply, accepted, refused, given, stageAt, checkReply, sheetReply, bufferFor, bufferAfter, postReply}
+use Rattle.unit.specs.Demands.{NoneApplies}
+use Rattle.unit.specs.Held.{Headed, Holds, Laid, Ready}
+use Rattle.unit.proofs.Given.{given-end, given-skip, given-stop, given-past, given-says, given-refused, refused-any}
+use Rattle.unit.proofs.Sounds.{laid}
+use Rattle.unit.proofs.Accepts.{none-passes}
+
+module _ (s : List ℕ) where
+  check-none : (n : ℕ) → checkReply s ≡ accepted n → NoneApplies (checkRows s) s
+  unfolding checkReply
+  check-none n e = given-says s posts (checkRows s) n e
+
+  check-refused : {A : Type 0} (answer : List ℕ → A) (rest : List Row) (number place : ℕ) → checkReply s ≡ refused number place → given (checkRows s ++ rest) s answer ≡ refused number place
+  unfolding checkReply
+  check-refused answer rest number place e = given-refused s answer (checkRows s) rest number place (refused-any s posts answer (checkRows s) number place e)
+
+  -- ---- sheet
+
+  module _ (k : ℕ) (b : List ℕ) where
+    pub sheet-refused : (number place : ℕ) → checkReply s ≡ refused number place → sheetReply s k b ≡ refused number place
+    unfolding sheetReply sheetRows
+    sheet-refused = check-refused (λ z. 2 * k) (stageRow k ∷ roomRow k (length b) ∷ [])
+
+    module _ (n : ℕ) (e : checkReply s ≡ accepted n) (is : n ≡ posts s) where
+      past : sheetReply s k b ≡ given (stageRow k ∷ roomRow k (length b) ∷ []) s (λ z. 2 * k)
+      unfolding sheetReply sheetRows
+      past = given-past s (λ z. 2 * k) (checkRows s) (stageRow k ∷ roomRow k (length b) ∷ []) (check-none n e)
+
+      pub sheet-low : k < 3 → sheetReply s k b ≡ refused 15 0
+      sheet-low h = past ∙ given-stop s (λ z. 2 * k) (stageRow k) _ (rw (lt-ltb k 3 h) refl)
+
+      module _ (least : 3 ≤ k) where
+        pub sheet-high : n < k → sheetReply s k b ≡ refused 15 0
+        sheet-high h = past ∙ given-stop s (λ z. 2 * k) (stageRow k) _ (rw (le-ltb k 3 least, lt-ltb (posts s) k (omega arith)) refl)
+
+        module _ (most : k ≤ n) where
+          inside : ltb k 3 || ltb (posts s) k ≡ false
+          inside = rw (le-ltb k 3 least, le-ltb (posts s) k (omega arith)) refl
+
+          pub sheet-room : length b < 2 * k → sheetReply s k b ≡ refused 16 0
+          sheet-room h = past ∙ given-skip s (λ z. 2 * k) (stageRow k) _ inside ∙ given-stop s (λ z. 2 * k) (roomRow k (length b)) _ (lt-ltb (length b) (2 * k) h)
+
+          pub sheet-fine : 2 * k ≤ length b → sheetReply s k b ≡ accepted (2 * k)
+          sheet-fine h =
+              past ∙ given-skip s (λ z. 2 * k) (stageRow k) _ inside ∙ given-skip s (λ z. 2 * k) (roomRow k (length b)) _ (le-ltb (length b) (2 * k) h) ∙ given-end s (λ z. 2 * k)
+
+    pub buffer-kept : (number place : ℕ) → sheetReply s k b ≡ refused number place → b ≡ bufferAfter s k b
+    unfolding bufferAfter bufferFor
+    buffer-kept number place e = sym (ap (λ (r : Reply ℕ). bufferFor r s k b) e)
+
+    pub buffer-written : sheetReply s k b ≡ accepted (2 * k) → entriesOf (stageAt k s) ++ drop (2 * k) b ≡ bufferAfter s k b
+    unfolding bufferAfter bufferFor
+    buffer-written e = sym (ap (λ (r : Reply ℕ). bufferFor r s k b) e)
+
+  -- ---- post
+
+  module _ (k u : ℕ) where
+    abbrev answer : List ℕ → Record
+    answer z = recordOf (stageAt k z) u
+
+    pub post-refused : (number place : ℕ) → checkReply s ≡ refused number place → postReply s k u ≡ refused number place
+    unfolding postReply postRows
+    post-refused = check-refused answer (stageRow k ∷ nameRow u ∷ [])
+
+    module _ (n : ℕ) (e : checkReply s ≡ accepted n) (is : n ≡ posts s) where
+      on : postReply s k u ≡ given (stageRow k ∷ nameRow u ∷ []) s answer
+      unfolding postReply postRows
+      on = given-past s answer (checkRows s) (stageRow k ∷ nameRow u ∷ []) (check-none n e)
+
+      pub post-low : k < 3 → postReply s k u ≡ refused 15 0
+      post-low h = on ∙ given-stop s answer (stageRow k) _ (rw (lt-ltb k 3 h) refl)
+
+      module _ (least : 3 ≤ k) where
+        pub post-high : n < k → postReply s k u ≡ refused 15 0
+        post-high h = on ∙ given-stop s answer (stageRow k) _ (rw (le-ltb k 3 least, lt-ltb (posts s) k (omega arith)) refl)
+
+        module _ (most : k ≤ n) where
+          within : ltb k 3 || ltb (posts s) k ≡ false
+          within = rw (le-ltb k 3 least, le-ltb (posts s) k (omega arith)) refl
+
+          pub post-unnamed : n ≤ u → postReply s k u ≡ refused 17 0
+          post-unnamed h = on ∙ given-skip s answer (stageRow k) _ within ∙ given-stop s answer (nameRow u) _ (le-leb (posts s) u (omega arith))
+
+          pub post-fine : u < n → postReply s k u ≡ accepted (recordOf (stageAt k s) u)
+          post-fine h = on ∙ given-skip s answer (stageRow k) _ within ∙ given-skip s answer (nameRow u) _ (lt-leb (posts s) u (omega arith)) ∙ given-end s answer
+
+  -- ---- what the engine asks, and what it gives
+
+  module _ (n : ℕ) (e : checkReply s ≡ accepted n) (vs at ents rank : List ℕ) (R : Ready s n vs at ents rank) (room : limit < length at) where
+    L : Laid s (take n vs) (take (n + 1) at) (take (entries n) ents)
+    L = laid s n vs at ents (R .headed) room (R .holds)
+
+    pub length-is : length (take n vs) ≡ n
+    length-is = L .headed .is ∙ sym (R .headed .is)
+
+    pub to-engine : Accepted (take (n + 1) at) (take (entries n) ents) (take n vs) rank
+    to-engine =
+        record {
+          passes = subst⁻¹ (λ (G : List (List ℕ)). Passes G (take n vs)) (L .rings) (subst⁻¹ (Passes (lists s)) (L .orders) (none-passes s (check-none n e)));
+          cuts = L .cuts;
+          all = L .places;
+          three = L .headed .least;
+          most = L .headed .most;
+          ranked = subst⁻¹ (λ (l : List ℕ). Rattle.engine.specs.Found.Ranked l rank) (L .orders) (R .ranked .name);
+          in-rank = subst⁻¹ (λ (l : List ℕ). length l ≤ length rank) (L .orders) (R .ranked .room);
+        }
+
+    pub stage-is : (k : ℕ) → stage (held (take (n + 1) at) (take (entries n) ents)) (take k (take n vs)) ≡ stageAt k s
+    unfolding stageAt
+    stage-is k = rw (L .rings, L .orders) refl
