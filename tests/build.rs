@@ -10,7 +10,10 @@ fn main() {
     let folder = env::var("PGB_LIB").expect("PGB_LIB must name the folder with libcapi.a");
     let folder = fs::canonicalize(&folder)
         .unwrap_or_else(|error| panic!("PGB_LIB names {folder}, which cannot be opened: {error}"));
-    println!("cargo:rerun-if-changed={}", folder.join("libcapi.a").display());
+    println!(
+        "cargo:rerun-if-changed={}",
+        folder.join("libcapi.a").display()
+    );
     println!("cargo:rustc-link-search=native={}", folder.display());
     println!("cargo:rustc-link-lib=static=capi");
 }

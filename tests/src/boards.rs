@@ -254,7 +254,14 @@ pub fn grid_torus(rows: u16, columns: u16) -> Rings {
         let (r, c) = (i / columns, i % columns);
         let (up, right) = (r + 1, c + 1);
         let (down, left) = (r + rows - 1, c + columns - 1);
-        let around = [(r, right), (up, right), (up, c), (r, left), (down, left), (down, c)];
+        let around = [
+            (r, right),
+            (up, right),
+            (up, c),
+            (r, left),
+            (down, left),
+            (down, c),
+        ];
         around.map(|(row, column)| name(row, column)).to_vec()
     };
     (0..rows * columns).map(ring).collect()

@@ -6,13 +6,13 @@
 
 pub mod board;
 pub mod boards;
-//pub mod cases;
-//pub mod compare;
-//pub mod damage;
+pub mod cases;
+pub mod compare;
+pub mod damage;
 pub mod ffi;
-//pub mod geometry;
+pub mod geometry;
 pub mod linear;
 pub mod paper;
 pub mod reply;
 pub mod rng;
-//pub mod text;
+pub mod text;

@@ -237,7 +237,10 @@ impl Board {
             run_starts(&earlier)[0]
         };
         let turned = (0..ring.len()).map(|i| (start + i) % ring.len());
-        turned.take_while(|&i| earlier[i]).map(|i| ring[i]).collect()
+        turned
+            .take_while(|&i| earlier[i])
+            .map(|i| ring[i])
+            .collect()
     }
 }
 
@@ -289,7 +292,11 @@ impl Drawing {
     fn place(&mut self, new: usize, run: &[usize]) {
         let p = self.contour_index(run[0]);
         let q = self.contour_index(run[run.len() - 1]);
-        assert_eq!(self.contour[p..=q], *run, "a run is a stretch of the contour");
+        assert_eq!(
+            self.contour[p..=q],
+            *run,
+            "a run is a stretch of the contour"
+        );
 
         let between = self.contour[p + 1..q].to_vec();
         let right = self.contour[q..].to_vec();
