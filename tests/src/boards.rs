@@ -447,7 +447,7 @@ mod tests {
 
     /// Tutte's number of triangulations of n posts with a marked outer
     /// triangle: 2 (4m + 1)! / ((m + 1)! (3m + 2)!) with m = n - 3.
-    const TUTTE: [usize; 9] = [0, 0, 0, 1, 1, 3, 13, 68, 399];
+    const TUTTE: [(usize, usize); 6] = [(3, 1), (4, 1), (5, 3), (6, 13), (7, 68), (8, 399)];
 
     /// The rings renamed in the order in which a walk from v1, v2 meets the
     /// posts: equal for equal maps with equal outer triangles.
@@ -482,12 +482,12 @@ mod tests {
 
     #[test]
     fn every_triangulation_comes_up() {
-        for n in 3..=8 {
+        for (n, expected) in TUTTE {
             let mut forms = HashSet::new();
             every_board(n, &mut |board| {
                 forms.insert(canonical_form(&board.rings, 0, 1));
             });
-            assert_eq!(forms.len(), TUTTE[n], "n = {n}");
+            assert_eq!(forms.len(), expected, "n = {n}");
         }
     }
 

@@ -352,7 +352,7 @@ pub const KINDS: &[Damage] = damages![
     "cut in the sum": |draft, rng| draft.cut(16 * draft.n() - 17, 16 * draft.n() - 16, rng),
     "bytes appended": |draft, rng| {
         let more = rng.between(1, 20);
-        draft.bytes.extend((0..more).map(|_| rng.next() as u8))
+        draft.bytes.extend((0..more).map(|_| rng.draw() as u8))
     },
     "a byte lost in the middle": |draft, rng| {
         let at = rng.below(draft.bytes.len());
@@ -360,7 +360,7 @@ pub const KINDS: &[Damage] = damages![
     },
     "a byte too many in the middle": |draft, rng| {
         let at = rng.below(draft.bytes.len());
-        draft.bytes.insert(at, rng.next() as u8)
+        draft.bytes.insert(at, rng.draw() as u8)
     },
     "the block twice": |draft, _rng| draft.bytes.extend_from_within(..),
     // anywhere
@@ -370,7 +370,7 @@ pub const KINDS: &[Damage] = damages![
     },
     "a byte changed": |draft, rng| {
         let at = rng.below(draft.bytes.len());
-        draft.bytes[at] = rng.next() as u8
+        draft.bytes[at] = rng.draw() as u8
     },
     "a number replaced by one that could be a name": |draft, rng| {
         let at = 7 + 2 * rng.below((draft.bytes.len() - 7) / 2);
@@ -379,7 +379,7 @@ pub const KINDS: &[Damage] = damages![
     "all zero": |draft, _rng| draft.bytes.fill(0),
     "all zero behind the header": |draft, _rng| draft.bytes[7..].fill(0),
     "chance behind the header": |draft, rng| {
-        draft.bytes[7..].iter_mut().for_each(|byte| *byte = rng.next() as u8)
+        draft.bytes[7..].iter_mut().for_each(|byte| *byte = rng.draw() as u8)
     },
     "chance names behind a right order and right degrees": |draft, rng| {
         for at in (7 + 4 * draft.n()..draft.bytes.len() - 2).step_by(2) {
@@ -387,7 +387,7 @@ pub const KINDS: &[Damage] = damages![
         }
     },
     "chance throughout": |draft, rng| {
-        draft.bytes.iter_mut().for_each(|byte| *byte = rng.next() as u8)
+        draft.bytes.iter_mut().for_each(|byte| *byte = rng.draw() as u8)
     },
 ];
 

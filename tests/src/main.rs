@@ -328,7 +328,7 @@ fn outer_triangle_on_the_torus(run: &mut Run) {
 fn chance_bytes(run: &mut Run) {
     for round in 0..3000 {
         let length = run.rng.below(if round % 10 == 0 { 20_000 } else { 200 });
-        let mut block: Vec<u8> = (0..length).map(|_| run.rng.next() as u8).collect();
+        let mut block: Vec<u8> = (0..length).map(|_| run.rng.draw() as u8).collect();
         if run.rng.chance(70) {
             put_start(&mut block, b"PGB\0\x01");
         }
