@@ -3,9 +3,9 @@
 
 use crate::board::Board;
 use crate::geometry;
-use crate::reply::{post_reply, word, Record, Refusal};
+use crate::reply::{post_reply, readable, word, Record, Refusal};
 use crate::{ffi, paper, text};
-use std::fmt::Debug;
+use std::fmt::Display;
 use std::process::exit;
 
 /// Entries around the lent buffer that nobody may touch.
@@ -28,7 +28,7 @@ impl Tester {
         let got = ffi::check(block);
         self.count(expected.err());
         if got != word(expected) {
-            differs("check", block, &got, &word(expected));
+            differs("check", block, readable(got), readable(word(expected)));
         }
         expected
     }
@@ -44,11 +44,12 @@ impl Tester {
         self.count(expected_reply.err());
         let call = || format!("sheet, stage {stage}, room {room}");
         if got_reply != word(expected_reply) {
-            differs(&call(), block, &got_reply, &word(expected_reply));
+            let expected = readable(word(expected_reply));
+            differs(&call(), block, readable(got_reply), expected);
         }
         if let Some(i) = (0..got.len()).find(|&i| got[i] != expected[i]) {
             let entry = format!("{}, buffer entry {}", call(), i as i64 - MARGIN as i64);
-            differs(&entry, block, &got[i], &expected[i]);
+            differs(&entry, block, got[i], expected[i]);
         }
         expected_reply.map(|count| got[lent][..usize::from(count)].to_vec())
     }
@@ -59,7 +60,7 @@ impl Tester {
         self.count(expected.err());
         if got != post_reply(expected) {
             let call = format!("post, stage {stage}, name {name}");
-            differs(&call, block, &got, &post_reply(expected));
+            differs(&call, block, got, post_reply(expected));
         }
         expected
     }
@@ -100,9 +101,9 @@ fn marked(i: usize) -> u16 {
     (i as u16).wrapping_mul(40503) ^ 0xA5C3
 }
 
-fn differs(call: &str, block: &[u8], got: &dyn Debug, expected: &dyn Debug) -> ! {
+fn differs<T: Display>(call: &str, block: &[u8], got: T, expected: T) -> ! {
     fails(
-        &format!("{call}: got {got:?}, the paper says {expected:?}"),
+        &format!("{call}: got {got}, the paper says {expected}"),
         block,
     )
 }

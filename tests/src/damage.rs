@@ -391,12 +391,12 @@ pub const KINDS: &[Damage] = damages![
     },
 ];
 
-/// The highest refusal that a block alone can get. Number 14 cannot arise: as
-/// long as 12 and 13 don't, each new post's run is a stretch of the contour, a
-/// ring of wires with v1 v2 among them. A post with no later neighbour would
-/// have the whole contour around it, v1 following v2 there; so it would follow
-/// v1 at v2, and step 11 has found vn in that place.
-pub const HIGHEST_THAT_ARISES: u16 = 13;
+/// The refusal that no block can get. As long as 12 and 13 don't come, each new
+/// post's run is a stretch of the contour, a ring of wires with v1 v2 among
+/// them. A post below position n with no later neighbour would have the whole
+/// contour around it, v1 following v2 there; so it would follow v1 at v2, and
+/// step 11 has found vn in that place.
+pub const CANNOT_COME: u16 = 14;
 
 /// Boards in pieces with the right number of entries and triangles everywhere:
 /// a plane piece (the first one's posts) beside one torus or more. Each comes
@@ -457,7 +457,7 @@ mod tests {
                 }
             }
         }
-        for number in (1..=HIGHEST_THAT_ARISES).map(Some) {
+        for number in (1..CANNOT_COME).map(Some) {
             assert!(reached.contains(&number), "{number:?}");
         }
     }

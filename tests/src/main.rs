@@ -47,6 +47,7 @@ fn main() {
     run.part("damaged blocks", damaged_blocks);
     run.part("boards in pieces", boards_in_pieces);
     run.part("bytes by chance", chance_bytes);
+    run.part("long blocks and long buffers", long_slices);
     run.end();
 }
 
@@ -72,8 +73,8 @@ impl Run {
         println!("replies by number (0: accepted):");
         for (number, count) in tester.replies.iter().enumerate() {
             println!("  {number:2}: {count}");
-            let arises = number != usize::from(damage::HIGHEST_THAT_ARISES) + 1;
-            assert_eq!(*count > 0, arises, "refusal {number} came {count} times");
+            let can_come = number != usize::from(damage::CANNOT_COME);
+            assert_eq!(*count > 0, can_come, "reply {number} came {count} times");
         }
         println!(
             "{} sheets tested pair of wires by pair of wires, {} pairs of stages for moves",
@@ -83,7 +84,7 @@ impl Run {
         println!("outside: {} calls compared, 0 differences", tester.calls);
     }
 
-    /// All three services with every stage, every name and the given rooms.
+    /// All three services with every stage and name, and rooms around those needed.
     fn everything(&mut self, block: &[u8], n: usize) {
         let outside = [n + 1, n + 2].into_iter().chain(HUGE);
         for stage in (0..=n).chain(outside.clone()) {
@@ -344,5 +345,23 @@ fn chance_bytes(run: &mut Run) {
 fn put_start(block: &mut [u8], start: &[u8]) {
     if block.len() >= start.len() {
         block[..start.len()].copy_from_slice(start);
+    }
+}
+
+/// Lengths that look right in 16 bits.
+fn long_slices(run: &mut Run) {
+    for board in [t(), d()] {
+        let mut block = board.block();
+        for room in [65535, 65536, 65536 + 2 * board.posts() - 1, 1 << 17] {
+            for stage in 3..=board.posts() {
+                let _ = run.tester.sheet(&block, stage, room);
+            }
+        }
+        for more in [65536, 1 << 20] {
+            block.resize(board.block().len() + more, 0);
+            run.something(&block, board.posts(), 10);
+            mend_sum(&mut block);
+            run.something(&block, board.posts(), 10);
+        }
     }
 }

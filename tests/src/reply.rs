@@ -1,5 +1,7 @@
 //! The replies of the three services, and the form that the C library gives them.
 
+use std::fmt::{self, Display};
+
 /// A refusal: its number in the paper's table, and its place.
 #[derive(Clone, Copy, PartialEq, Eq, Debug)]
 pub struct Refusal {
@@ -35,12 +37,28 @@ pub struct PostReply {
     pub second: u16,
 }
 
+impl Display for PostReply {
+    fn fmt(&self, f: &mut fmt::Formatter) -> fmt::Result {
+        let reply = readable(self.reply);
+        let standing = [self.standing, self.first, self.second];
+        write!(f, "{reply} at ({}, {}) {standing:?}", self.x, self.y)
+    }
+}
+
 /// The reply of check and sheet as the C library returns it: the number (0 when
 /// accepted) times 65,536, and the value or the place.
 pub fn word(reply: Result<u16, Refusal>) -> u32 {
     match reply {
         Ok(value) => u32::from(value),
         Err(refusal) => u32::from(refusal.number) << 16 | u32::from(refusal.place),
+    }
+}
+
+/// A reply word in readable form.
+pub fn readable(word: u32) -> String {
+    match (word >> 16, word & 0xFFFF) {
+        (0, value) => format!("accepted {value}"),
+        (number, place) => format!("refused {number} {place}"),
     }
 }
 
