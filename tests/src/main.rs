@@ -246,6 +246,9 @@ fn large_boards(run: &mut Run) {
         run.something(&block, 1000, 30);
         run.tester.geometry(&board, &sample_of_stages(1000));
     }
+    // One post too many, and otherwise a right block.
+    let block = random(Kind::Flipped, 1001, &mut run.rng).block();
+    run.something(&block, 1001, 10);
 }
 
 /// Stages by twos, one after the other, so that moves are seen at each.
