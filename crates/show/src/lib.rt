@@ -98,6 +98,13 @@ pub fn check(s: &[u8]) {
     }
 }
 
+// What check replies to the first n bytes.
+pub fn check_front(s: &[u8], n: usize) {
+    if n <= s.len() {
+        check(&s[..n]);
+    }
+}
+
 fn entries_of(entries: &[u16]) {
     let mut i = 0;
     while i < entries.len() {

@@ -47,10 +47,12 @@ fn main() {
     let mut word = [0u8; 32];
     let w = os::arg(1, &mut word);
     match parse(&word[..w]) {
-        Word::Other => show::text(b"usage: stage K < block, with K the stage, from 3 to the number of posts\n"),
+        Word::Other => show::text(
+            b"usage: stage K < block, with K the stage, from 3 to the number of posts\n",
+        ),
         Word::Number(k) => {
             let mut block = io::large_buffer();
-            let n = io::read_full(0, &mut block[..15986]);
+            let n = io::read_full(0, &mut block);
             show::sheet(&block[..n], k);
         }
     }
