@@ -53,7 +53,7 @@ pub none-left : (a b : List Row) (s : List ℕ) → NoneApplies (a ++ b) s → N
 none-left [] b s h = tt
 none-left (r ∷ a) b s h = (h .0, none-left a b s (h .1))
 
-none-right : (a b : List Row) (s : List ℕ) → NoneApplies (a ++ b) s → NoneApplies b s
+pub none-right : (a b : List Row) (s : List ℕ) → NoneApplies (a ++ b) s → NoneApplies b s
 none-right [] b s h = h
 none-right (r ∷ a) b s h = none-right a b s (h .1)
 

@@ -8,3 +8,4 @@ pub mod Sounds
 pub mod Accepts
 pub mod Demanded
 pub mod Calls
+pub mod Written

@@ -4,7 +4,9 @@ use mathlib.Core.Path.{_≡_}
 use mathlib.Core.Bool.{Bool, true, false}
 use mathlib.Core.Logic.{_↔_}
 use mathlib.Core.List.{List, [], _∷_, _++_}
-use lib.ListN.{length, take, drop}
+use lib.Dec.{eqb}
+use lib.ListN.{length, getD, take, drop}
+use Rattle.words.specs.First.{first}
 use Rattle.words.specs.Lists.{In}
 use Rattle.words.specs.Positions.{post}
 use Rattle.block.specs.Block.{posts, order, lists, Framed}
@@ -93,3 +95,23 @@ pub record Demand3 (U : Services) : Type 0 where
   pub no-short : (s : List ℕ) (n k : ℕ) → U .check s ≡ accepted n → 3 ≤ k → k ≤ n → NoneMeet (places s k) (Wire (lists s) (take k (order s)))
   -- going from stage k to k+1
   pub moves : (s : List ℕ) (n k : ℕ) → U .check s ≡ accepted n → 3 ≤ k → k < n → (u : ℕ) → Placed s k u → Moves (places s k) (places s (k + 1)) u
+
+-- ---- The same of the paper that the class wires from.
+
+-- where a sheet's entries say that the posts stand: x then y of the post in position 1, then of that in position 2, and so on
+abbrev pub positionOf : List ℕ → ℕ → ℕ
+positionOf vs u = first 1 (length vs) (λ k. eqb (post vs k) u)
+
+abbrev pub onSheet : List ℕ → List ℕ → Places
+onSheet vs b = record { x = λ u. getD b (2 * (positionOf vs u - 1)) 0; y = λ u. getD b (2 * (positionOf vs u - 1) + 1) 0 }
+
+-- the sheet b of stage k: different points of the grid, and no two different wires meet except at a post they share
+pub record Safe (s : List ℕ) (k : ℕ) (b : List ℕ) : Type 0 where
+  pub grid : OnGrid (onSheet (order s) b) (Placed s k) (2 * k - 4) (k - 2)
+  pub no-short : NoneMeet (onSheet (order s) b) (Wire (lists s) (take k (order s)))
+
+-- every sheet that the unit writes is safe, and from one stage's sheet to the next posts move as they may
+pub record SafeSheets (U : Services) : Type 0 where
+  pub safe : (s : List ℕ) (k : ℕ) (b : List ℕ) → Accepted (U .sheet s k b) → Safe s k (U .buffer s k b)
+  pub moving : (s : List ℕ) (k : ℕ) (b c : List ℕ) → Accepted (U .sheet s k b) → Accepted (U .sheet s (k + 1) c) → (u : ℕ) → Placed s k u
+      → Moves (onSheet (order s) (U .buffer s k b)) (onSheet (order s) (U .buffer s (k + 1) c)) u
