@@ -331,6 +331,36 @@ fn draw_post(at: &[u16], ents: &[u16], vs: &[u16], rank: &[u16], k: usize, u: u1
     )
 }
 
+// sheet for an accepted block of n posts, held in the arrays.
+fn sheet_of(
+    s: &[u8],
+    n: usize,
+    vs: &[u16],
+    at: &[u16],
+    ents: &[u16],
+    rank: &[u16],
+    k: usize,
+    buffer: &mut [u16],
+) -> Answer
+    requires { ⌜ (checkReply (now s) ≡ accepted n) × Ready (now s) n (now vs) (now at) (now ents) (now rank) × Wide (now vs) (now at) (now ents) ⌝ }
+    ensures { λ r. ⌜ (replyOf r ≡ sheetReply (now (s .entry)) k (now (buffer .entry))) × (now (buffer .exit) ≡ bufferAfter (now (s .entry)) k (now (buffer .entry))) ⌝ }
+{
+    if k < 3 {
+        return Answer::Refused(Refusal::Stage);
+    }
+    if n < k {
+        return Answer::Refused(Refusal::Stage);
+    }
+    if buffer.len() < 2 * k {
+        return Answer::Refused(Refusal::Room);
+    }
+    let b = Block { n };
+    let e = b.entries();
+    let p = n + 1;
+    draw_sheet(&at[..p], &ents[..e], &vs[..n], rank, k, buffer);
+    Answer::Accepted((2 * k) as u16)
+}
+
 // sheet: any bytes, any stage, any buffer; accepted with the count 2k of entries written, or the refusal that the table fixes, with the buffer
 // as it came.
 pub fn sheet(s: &[u8], k: usize, buffer: &mut [u16]) -> Answer
@@ -345,27 +375,42 @@ pub fn sheet(s: &[u8], k: usize, buffer: &mut [u16]) -> Answer
     let Answer::Accepted(posts) = r else {
         return r;
     };
-    let n = words::number(posts);
-    if k < 3 {
-        return Answer::Refused(Refusal::Stage);
-    }
-    if n < k {
-        return Answer::Refused(Refusal::Stage);
-    }
-    if buffer.len() < 2 * k {
-        return Answer::Refused(Refusal::Room);
-    }
-    let b = Block { n };
-    let e = b.entries();
-    let p = n + 1;
-    draw_sheet(&at[..p], &ents[..e], &vs[..n], &rank, k, buffer);
-    Answer::Accepted((2 * k) as u16)
+    sheet_of(s, words::number(posts), &vs, &at, &ents, &rank, k, buffer)
 }
 
 // post's reply: the post's record, or the refusal.
 pub enum Posted {
     Accepted(Record),
     Refused(Refusal),
+}
+
+// post for an accepted block of n posts, held in the arrays.
+fn post_of(
+    s: &[u8],
+    n: usize,
+    vs: &[u16],
+    at: &[u16],
+    ents: &[u16],
+    rank: &[u16],
+    k: usize,
+    u: usize,
+) -> Posted
+    requires { ⌜ (checkReply (now s) ≡ accepted n) × Ready (now s) n (now vs) (now at) (now ents) (now rank) × Wide (now vs) (now at) (now ents) ⌝ }
+    ensures { λ r. ⌜ postedOf r ≡ postReply (now (s .entry)) k u ⌝ }
+{
+    if k < 3 {
+        return Posted::Refused(Refusal::Stage);
+    }
+    if n < k {
+        return Posted::Refused(Refusal::Stage);
+    }
+    if n <= u {
+        return Posted::Refused(Refusal::Name);
+    }
+    let b = Block { n };
+    let e = b.entries();
+    let p = n + 1;
+    Posted::Accepted(draw_post(&at[..p], &ents[..e], &vs[..n], rank, k, u as u16))
 }
 
 // post: any bytes, any stage, any name; accepted with the post's record at that stage, or the refusal that the table fixes.
@@ -380,21 +425,6 @@ pub fn post(s: &[u8], k: usize, u: usize) -> Posted
     let r = check_into(s, &mut vs, &mut ds, &mut at, &mut ents, &mut rank);
     match r {
         Answer::Refused(f) => Posted::Refused(f),
-        Answer::Accepted(posts) => {
-            let n = words::number(posts);
-            if k < 3 {
-                return Posted::Refused(Refusal::Stage);
-            }
-            if n < k {
-                return Posted::Refused(Refusal::Stage);
-            }
-            if n <= u {
-                return Posted::Refused(Refusal::Name);
-            }
-            let b = Block { n };
-            let e = b.entries();
-            let p = n + 1;
-            Posted::Accepted(draw_post(&at[..p], &ents[..e], &vs[..n], &rank, k, u as u16))
-        }
+        Answer::Accepted(posts) => post_of(s, words::number(posts), &vs, &at, &ents, &rank, k, u),
     }
 }

@@ -1,0 +1,30 @@
+use borrow.Author.Needs.{needs}
+use Rattle.capi.proofs.of_record.Statement.{statement}
+use Rattle.capi.proofs.of_record.Tie as tie
+use Rattle.capi.proofs.of_record.Reads as reads
+use Rattle.capi.proofs.of_record.Lts as lts
+use Rattle.capi.proofs.first.Reads as first-reads
+use Rattle.capi.proofs.second.Reads as second-reads
+use Rattle.capi.proofs.standing_code.Reads as standing-code-reads
+use mathlib.Core.Path.{_≡_, refl, sym, ap, _∙_}
+use Rattle.capi.specs.Codes.{codeOf, postOf}
+use Rattle.unit.specs.Refusals.{replyOf, postedOf}
+
+-- src/lib.rt:94:19
+standing-code-requires : tie.Need-standing-code-requires
+standing-code-requires c κs = search needs
+
+-- src/lib.rt:95:16
+first-requires : tie.Need-first-requires
+first-requires c κs = search needs
+
+-- src/lib.rt:96:17
+second-requires : tie.Need-second-requires
+second-requires c κs = search needs
+
+-- src/lib.rt:86:1
+returns : tie.Need-returns
+returns c = rw (c .before .before .standing-code .ensures, c .before .first .ensures, c .second .ensures) refl
+
+pub of-record-spec : {M : Type 1} → statement M
+of-record-spec = tie.close (tie.spec standing-code-requires first-requires second-requires returns)

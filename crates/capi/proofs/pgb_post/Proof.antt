@@ -1,0 +1,51 @@
+use borrow.Author.Needs.{needs}
+use Rattle.capi.proofs.pgb_post.Statement.{statement}
+use Rattle.capi.proofs.pgb_post.Tie as tie
+use Rattle.capi.proofs.pgb_post.Reads as reads
+use Rattle.capi.proofs.pgb_post.Lts as lts
+use Rattle.capi.proofs.of_record.Reads as of-record-reads
+use Rattle.capi.proofs.of_refusal.Reads as of-refusal-reads
+use Rattle.unit.proofs.post.Reads as post-reads
+use mathlib.Core.Path.{_≡_, refl, sym, ap, _∙_}
+use Rattle.capi.specs.Codes.{codeOf, postOf}
+use Rattle.unit.specs.Refusals.{replyOf, postedOf}
+
+-- src/lib.rt:117:11
+post-requires : tie.Need-post-requires
+post-requires c κs = search needs
+
+-- src/lib.rt:118:26
+enum-known-r : tie.Need-enum-known-r
+enum-known-r c = search needs
+
+-- src/lib.rt:118:32
+of-record-requires : tie.Need-of-record-requires
+of-record-requires c κs = search needs
+
+-- src/lib.rt:119:25
+enum-known-f : tie.Need-enum-known-f
+enum-known-f c = search needs
+
+-- src/lib.rt:119:31
+of-refusal-requires : tie.Need-of-refusal-requires
+of-refusal-requires c κs = search needs
+
+-- src/lib.rt:113:1
+returns : tie.Need-returns
+returns c = c .of-record .ensures ∙ sym (ap (λ (z : _). postOf (postedOf z)) (c .before .before .r .given .1)) ∙ ap postOf (c .before .before .before .before .post .ensures)
+
+-- src/lib.rt:113:1
+returns-2 : tie.Need-returns-2
+returns-2 c = c .of-refusal .ensures ∙ sym (ap (λ (z : _). postOf (postedOf z)) (c .before .before .f .given .1)) ∙ ap postOf (c .before .before .before .before .post .ensures)
+
+pub pgb-post-spec : {M : Type 1} → statement M
+pgb-post-spec =
+    tie.close
+    (tie.spec
+    post-requires
+    enum-known-r
+    of-record-requires
+    enum-known-f
+    of-refusal-requires
+    returns
+    returns-2)

@@ -1,0 +1,32 @@
+-- A reply as one number: number * 65536 + value; number 0 is acceptance. A post's reply as five numbers beside it.
+use Prim.Native.Nat.{ℕ, _+_, _*_}
+use Rattle.placing.specs.declared.Record.{Record}
+use Rattle.placing.specs.declared.Standing.{Standing}
+use Rattle.placing.specs.declared.Standing.the-variants.{Waiting, OnContour, Covered}
+use Rattle.unit.specs.Replies.{Reply, accepted, refused}
+use Rattle.capi.specs.declared.PostReply.{PostReply}
+
+abbrev pub codeOf : Reply ℕ → ℕ
+codeOf (accepted v) = v
+codeOf (refused number place) = number * 65536 + place
+
+-- standing: 0 waiting, 1 on the contour, 2 covered; first and second: left and right, or the covering post twice
+abbrev pub standingOf : Standing → ℕ
+standingOf Waiting = 0
+standingOf (OnContour l r) = 1
+standingOf (Covered b) = 2
+
+abbrev pub firstOf : Standing → ℕ
+firstOf Waiting = 0
+firstOf (OnContour l r) = l
+firstOf (Covered b) = b
+
+abbrev pub secondOf : Standing → ℕ
+secondOf Waiting = 0
+secondOf (OnContour l r) = r
+secondOf (Covered b) = b
+
+abbrev pub postOf : Reply Record → PostReply
+postOf (accepted r) =
+    record { reply = 0; x = r .x; y = r .y; standing = standingOf (r .standing); first = firstOf (r .standing); second = secondOf (r .standing) }
+postOf (refused number place) = record { reply = number * 65536 + place; x = 0; y = 0; standing = 0; first = 0; second = 0 }

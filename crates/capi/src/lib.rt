@@ -1,0 +1,120 @@
+// The services as C functions, for firmware and for tests: include/pgb.h declares them.
+ghost use mathlib.Core.Path.{_≡_};
+ghost use Prim.Native.Nat.{_+_, _*_, _<_};
+ghost use Rattle.unit.specs.Replies.{accepted, refused, checkReply, sheetReply, bufferAfter, postReply};
+ghost use Rattle.unit.specs.Refusals.{numberOf, placeOf, replyOf};
+ghost use Rattle.capi.specs.Codes.{codeOf, standingOf, firstOf, secondOf, postOf};
+use placing::Record;
+use placing::Standing;
+use unit::Answer;
+use unit::Posted;
+use unit::Refusal;
+
+// A post's reply: acceptance is 0, and the record's numbers stand beside it; a refusal has zeros there.
+#[repr(C)]
+pub struct PostReply {
+    pub reply: u32,
+    pub x: u16,
+    pub y: u16,
+    pub standing: u16,
+    pub first: u16,
+    pub second: u16,
+}
+
+fn refusal_code(r: Refusal) -> u32
+    ensures { λ c. ⌜ c ≡ numberOf r * 65536 + placeOf r ⌝ }
+{
+    let n = r.number();
+    let p = r.place();
+    n as u32 * 65536 + p as u32
+}
+
+fn code(a: Answer) -> u32
+    ensures { λ c. ⌜ c ≡ codeOf (replyOf a) ⌝ }
+{
+    match a {
+        Answer::Accepted(v) => v as u32,
+        Answer::Refused(r) => refusal_code(r),
+    }
+}
+
+#[no_mangle]
+pub extern "C" fn pgb_check(block: &[u8]) -> u32
+    ensures { λ r. ⌜ r ≡ codeOf (checkReply (now (block .entry))) ⌝ }
+{
+    code(unit::check(block))
+}
+
+#[no_mangle]
+pub extern "C" fn pgb_sheet(block: &[u8], stage: usize, buffer: &mut [u16]) -> u32
+    ensures { λ r. ⌜ (r ≡ codeOf (sheetReply (now (block .entry)) stage (now (buffer .entry)))) × (now (buffer .exit) ≡ bufferAfter (now (block .entry)) stage (now (buffer .entry))) ⌝ }
+{
+    code(unit::sheet(block, stage, buffer))
+}
+
+fn standing_code(s: Standing) -> u16
+    ensures { λ c. ⌜ c ≡ standingOf s ⌝ }
+{
+    match s {
+        Standing::Waiting => 0,
+        Standing::OnContour(_, _) => 1,
+        Standing::Covered(_) => 2,
+    }
+}
+
+fn first(s: Standing) -> u16
+    ensures { λ c. ⌜ c ≡ firstOf s ⌝ }
+{
+    match s {
+        Standing::Waiting => 0,
+        Standing::OnContour(l, _) => l,
+        Standing::Covered(b) => b,
+    }
+}
+
+fn second(s: Standing) -> u16
+    ensures { λ c. ⌜ c ≡ secondOf s ⌝ }
+{
+    match s {
+        Standing::Waiting => 0,
+        Standing::OnContour(_, r) => r,
+        Standing::Covered(b) => b,
+    }
+}
+
+fn of_record(r: Record) -> PostReply
+    ensures { λ p. ⌜ p ≡ postOf (accepted r) ⌝ }
+{
+    let s = r.standing;
+    PostReply {
+        reply: 0,
+        x: r.x,
+        y: r.y,
+        standing: standing_code(s),
+        first: first(s),
+        second: second(s),
+    }
+}
+
+fn of_refusal(r: Refusal) -> PostReply
+    ensures { λ p. ⌜ p ≡ postOf (refused (numberOf r) (placeOf r)) ⌝ }
+{
+    PostReply {
+        reply: refusal_code(r),
+        x: 0,
+        y: 0,
+        standing: 0,
+        first: 0,
+        second: 0,
+    }
+}
+
+#[no_mangle]
+pub extern "C" fn pgb_post(block: &[u8], stage: usize, name: usize) -> PostReply
+    ensures { λ r. ⌜ r ≡ postOf (postReply (now (block .entry)) stage name) ⌝ }
+{
+    match unit::post(block, stage, name) {
+        Posted::Accepted(r) => of_record(r),
+        Posted::Refused(f) => of_refusal(f),
+    }
+}
