@@ -293,7 +293,7 @@ pub fn write_sheet(vs: &[u16], k: usize, xs: &[u16], ys: &[u16], buffer: &mut [u
 }
 
 // The record of post u at stage k.
-fn record_at(
+pub fn record_at(
     rank: &[u16],
     k: usize,
     xs: &[u16],
