@@ -1,0 +1,5 @@
+//! Parts of the benchmark.
+
+pub mod boost;
+pub mod clock;
+pub mod table;

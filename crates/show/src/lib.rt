@@ -1,0 +1,161 @@
+// Sheets, replies and records as text on standard output. What is written no contract can say; it is compared with what it must be.
+use libc::STDOUT_FILENO;
+use placing::Record;
+use placing::Standing;
+use unit::Answer;
+use unit::Posted;
+use unit::Refusal;
+
+fn wide(x: u16) -> u64 {
+    x as u64
+}
+
+pub fn text(t: &[u8]) {
+    io::write_all(STDOUT_FILENO, t);
+}
+
+// A space and a number.
+pub fn number(x: u16) {
+    io::write_all(STDOUT_FILENO, b" ");
+    io::print_decimal(STDOUT_FILENO, wide(x));
+}
+
+// A refusal: the word, its number and its place.
+pub fn refused(r: Refusal) {
+    text(b"refused");
+    number(r.number());
+    number(r.place());
+    text(b"\n");
+}
+
+// Position, name, x, y of the post in position i + 1.
+fn line(s: &[u8], i: usize, entries: &[u16]) {
+    if 1000 <= i {
+        return;
+    }
+    let at = 7 + 2 * i;
+    if s.len() <= at + 1 {
+        return;
+    }
+    if entries.len() <= 2 * i + 1 {
+        return;
+    }
+    io::print_decimal(STDOUT_FILENO, (i + 1) as u64);
+    number(words::word(s, at));
+    number(entries[2 * i]);
+    number(entries[2 * i + 1]);
+    text(b"\n");
+}
+
+fn lines(s: &[u8], k: usize, entries: &[u16]) {
+    let mut i = 0;
+    while i < k {
+        line(s, i, entries);
+        i += 1;
+    }
+}
+
+// Stage k of a block of n posts: the word, n, the stage; then a line for each position.
+fn stage(s: &[u8], n: u16, k: usize) {
+    let mut entries = [0u16; 2000];
+    match unit::sheet(s, k, &mut entries) {
+        Answer::Refused(r) => refused(r),
+        Answer::Accepted(count) => {
+            text(b"sheet");
+            number(n);
+            number(count / 2);
+            text(b"\n");
+            lines(s, k, &entries);
+        }
+    }
+}
+
+// A block's sheet at stage k, or its refusal.
+pub fn sheet(s: &[u8], k: usize) {
+    match unit::check(s) {
+        Answer::Refused(r) => refused(r),
+        Answer::Accepted(n) => stage(s, n, k),
+    }
+}
+
+// A block's last sheet, or its refusal.
+pub fn last_sheet(s: &[u8]) {
+    match unit::check(s) {
+        Answer::Refused(r) => refused(r),
+        Answer::Accepted(n) => stage(s, n, words::number(n)),
+    }
+}
+
+// What check replies.
+pub fn check(s: &[u8]) {
+    match unit::check(s) {
+        Answer::Refused(r) => refused(r),
+        Answer::Accepted(n) => {
+            text(b"accepted");
+            number(n);
+            text(b"\n");
+        }
+    }
+}
+
+// What check replies to the first n bytes.
+pub fn check_front(s: &[u8], n: usize) {
+    if n <= s.len() {
+        check(&s[..n]);
+    }
+}
+
+fn entries_of(entries: &[u16]) {
+    let mut i = 0;
+    while i < entries.len() {
+        number(entries[i]);
+        i += 1;
+    }
+    text(b"\n");
+}
+
+// What sheet replies with a buffer of these entries, and what stands in the buffer afterwards.
+pub fn reply_of_sheet(s: &[u8], k: usize, buffer: &mut [u16]) {
+    match unit::sheet(s, k, buffer) {
+        Answer::Refused(r) => {
+            text(b"refused");
+            number(r.number());
+            number(r.place());
+        }
+        Answer::Accepted(count) => {
+            text(b"accepted");
+            number(count);
+        }
+    }
+    text(b", buffer");
+    entries_of(buffer);
+}
+
+fn record(r: Record) {
+    text(b"at");
+    number(r.x);
+    number(r.y);
+    let s = r.standing;
+    match s {
+        Standing::Waiting => text(b" waiting\n"),
+        Standing::OnContour(l, q) => {
+            text(b" on the contour between");
+            number(l);
+            number(q);
+            text(b"\n");
+        }
+        Standing::Covered(b) => {
+            text(b" covered by");
+            number(b);
+            text(b"\n");
+        }
+    }
+}
+
+// What post replies.
+pub fn reply_of_post(s: &[u8], k: usize, u: usize) {
+    match unit::post(s, k, u) {
+        Posted::Refused(r) => refused(r),
+        Posted::Accepted(r) => record(r),
+    }
+}

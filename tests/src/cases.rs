@@ -1,0 +1,96 @@
+//! The paper's numbered cases 1 to 11, each compared and asserted as printed.
+
+use crate::board::{d, mend_sum, t, Board};
+use crate::compare::Tester;
+use crate::reply::{Record, Refusal, Standing};
+
+fn refused<T>(number: u16, place: u16) -> Result<T, Refusal> {
+    Err(Refusal { number, place })
+}
+
+fn d_with_order(order: [u16; 5]) -> Board {
+    Board {
+        order: order.to_vec(),
+        ..d()
+    }
+}
+
+fn sum_of(block: &[u8]) -> u16 {
+    let last = block.len() - 2;
+    u16::from_be_bytes([block[last], block[last + 1]])
+}
+
+/// Run all numbered cases.
+pub fn run(tester: &mut Tester) {
+    boards(tester);
+    sheets(tester);
+    refused_blocks(tester);
+    stages_and_rooms(tester);
+    posts(tester);
+}
+
+fn boards(tester: &mut Tester) {
+    let (t, d) = (t().block(), d().block());
+    assert_eq!((t.len(), sum_of(&t)), (33, 236));
+    assert_eq!((d.len(), sum_of(&d)), (65, 285));
+    assert_eq!(tester.check(&t), Ok(3));
+    assert_eq!(tester.check(&d), Ok(5));
+}
+
+/// Cases 1 to 4.
+fn sheets(tester: &mut Tester) {
+    let (t, d) = (t().block(), d().block());
+    assert_eq!(tester.sheet(&t, 3, 6), Ok(vec![0, 0, 2, 0, 1, 1]));
+    assert_eq!(tester.sheet(&d, 3, 6), Ok(vec![0, 0, 2, 0, 1, 1]));
+    assert_eq!(tester.sheet(&d, 4, 8), Ok(vec![0, 0, 4, 0, 2, 1, 2, 2]));
+    let last = vec![0, 0, 6, 0, 3, 1, 3, 2, 3, 3];
+    assert_eq!(tester.sheet(&d, 5, 10), Ok(last));
+}
+
+/// Cases 5, 9, 10 and 11.
+fn refused_blocks(tester: &mut Tester) {
+    let autumn = d_with_order([0, 1, 3, 2, 4]).block();
+    assert_eq!(sum_of(&autumn), 285);
+    assert_eq!(tester.check(&autumn), refused(13, 3));
+
+    let mut t_237 = t().block();
+    t_237[32] = 237;
+    assert_eq!(tester.check(&t_237), refused(6, 0));
+    assert_eq!(tester.check(&t().block()[..32]), refused(5, 0));
+
+    assert_eq!(tester.check(&[]), refused(1, 0));
+    assert_eq!(tester.check(b"PGB\0\x01\0"), refused(1, 0));
+    for n in [2u16, 1001] {
+        let mut block = d().block();
+        block[5..7].copy_from_slice(&n.to_be_bytes());
+        mend_sum(&mut block);
+        assert_eq!(tester.check(&block), refused(4, 0));
+    }
+
+    let repeated = d_with_order([0, 1, 2, 2, 4]).block();
+    assert_eq!(sum_of(&repeated), 284);
+    assert_eq!(tester.check(&repeated), refused(7, 4));
+}
+
+/// Case 6.
+fn stages_and_rooms(tester: &mut Tester) {
+    let d = d().block();
+    assert_eq!(tester.sheet(&d, 2, 10), refused(15, 0));
+    assert_eq!(tester.sheet(&d, 6, 12), refused(15, 0));
+    assert_eq!(tester.post(&d, 2, 0), refused(15, 0));
+    assert_eq!(tester.post(&d, 6, 0), refused(15, 0));
+    assert_eq!(tester.sheet(&d, 5, 9), refused(16, 0));
+    assert!(tester.sheet(&d, 5, 10).is_ok());
+}
+
+/// Cases 7 and 8.
+fn posts(tester: &mut Tester) {
+    let d = d().block();
+    let record = |x, y, standing| Ok(Record { x, y, standing });
+    let between = Standing::OnContour { left: 0, right: 1 };
+    assert_eq!(tester.post(&d, 3, 2), record(1, 1, between));
+    let covered = Standing::Covered { by: 3 };
+    assert_eq!(tester.post(&d, 4, 2), record(2, 1, covered));
+    assert_eq!(tester.post(&d, 4, 4), record(0, 0, Standing::Waiting));
+    assert_eq!(tester.post(&d, 4, 5), refused(17, 0));
+}

@@ -1,0 +1,489 @@
+//! Kinds of damage to the block of an accepted board, and boards in pieces.
+
+use crate::board::{mend_sum, Board};
+use crate::boards::{beside, grid_torus, ordered, seven_post_torus, stacked, Rings};
+use crate::rng::Rng;
+
+/// A block being damaged, with the board it was made from.
+pub struct Draft<'a> {
+    board: &'a Board,
+    bytes: Vec<u8>,
+}
+
+impl Draft<'_> {
+    fn n(&self) -> usize {
+        self.board.posts()
+    }
+
+    fn degree(&self, name: usize) -> usize {
+        self.board.rings[name].len()
+    }
+
+    /// The offset of the order entry in a position, counted from 0.
+    fn order_at(&self, position: usize) -> usize {
+        7 + 2 * position
+    }
+
+    /// The offset of a post's degree.
+    fn degree_at(&self, name: usize) -> usize {
+        7 + 2 * self.n() + 2 * name
+    }
+
+    /// The offset of entry i of a post's list.
+    fn entry_at(&self, name: usize, i: usize) -> usize {
+        let before: usize = (0..name).map(|other| self.degree(other)).sum();
+        7 + 4 * self.n() + 2 * (before + i)
+    }
+
+    fn get(&self, at: usize) -> u16 {
+        u16::from_be_bytes([self.bytes[at], self.bytes[at + 1]])
+    }
+
+    fn put(&mut self, at: usize, number: u16) {
+        self.bytes[at..at + 2].copy_from_slice(&number.to_be_bytes());
+    }
+
+    fn exchange(&mut self, at: usize, other: usize) {
+        let (one, two) = (self.get(at), self.get(other));
+        self.put(at, two);
+        self.put(other, one);
+    }
+
+    fn exchange_positions(&mut self, i: usize, j: usize) {
+        self.exchange(self.order_at(i), self.order_at(j));
+    }
+
+    fn put_order(&mut self, order: &[u16]) {
+        for (position, &name) in order.iter().enumerate() {
+            self.put(self.order_at(position), name);
+        }
+    }
+
+    fn put_list(&mut self, name: usize, list: &[u16]) {
+        for (i, &entry) in list.iter().enumerate() {
+            self.put(self.entry_at(name, i), entry);
+        }
+    }
+
+    /// Write degrees and lists of other rings with as many entries in all.
+    fn put_rings(&mut self, rings: &Rings) {
+        for (name, ring) in rings.iter().enumerate() {
+            self.put(self.degree_at(name), ring.len() as u16);
+        }
+        let mut at = self.entry_at(0, 0);
+        for &entry in rings.iter().flatten() {
+            self.put(at, entry);
+            at += 2;
+        }
+    }
+
+    /// A post and an index in its list.
+    fn any_entry(&self, rng: &mut Rng) -> (usize, usize) {
+        let name = rng.below(self.n());
+        (name, rng.below(self.degree(name)))
+    }
+
+    /// The offset of any entry of any list.
+    fn any_entry_at(&self, rng: &mut Rng) -> usize {
+        let (name, i) = self.any_entry(rng);
+        self.entry_at(name, i)
+    }
+
+    /// Two different posts.
+    fn two_posts(&self, rng: &mut Rng) -> (usize, usize) {
+        let one = rng.below(self.n());
+        let other = (one + rng.between(1, self.n() - 1)) % self.n();
+        (one, other)
+    }
+
+    fn change_degree(&mut self, name: usize, by: i32) {
+        let degree = i32::from(self.get(self.degree_at(name)));
+        self.put(self.degree_at(name), (degree + by).max(0) as u16);
+    }
+
+    fn cut(&mut self, low: usize, high: usize, rng: &mut Rng) {
+        self.bytes.truncate(rng.between(low, high));
+    }
+
+    /// An order with the posts from position `from` to the last but one shuffled.
+    fn shuffle_order(&mut self, from: usize, rng: &mut Rng) {
+        let mut order = self.board.order.clone();
+        let last = self.n() - 1;
+        rng.shuffle(&mut order[from.min(last)..last]);
+        self.put_order(&order);
+    }
+}
+
+/// A kind of damage.
+pub struct Damage {
+    pub name: &'static str,
+    apply: fn(&mut Draft, &mut Rng),
+}
+
+/// A block with this damage: as it is, and with its sum mended.
+pub fn both(kind: &Damage, board: &Board, rng: &mut Rng) -> [Vec<u8>; 2] {
+    let mut draft = Draft {
+        board,
+        bytes: board.block(),
+    };
+    (kind.apply)(&mut draft, rng);
+    let mut mended = draft.bytes.clone();
+    mend_sum(&mut mended);
+    [draft.bytes, mended]
+}
+
+macro_rules! damages {
+    ($($name:literal: |$draft:ident, $rng:ident| $apply:expr),* $(,)?) => {
+        &[$(Damage { name: $name, apply: |$draft: &mut Draft, $rng: &mut Rng| $apply }),*]
+    };
+}
+
+/// All kinds of damage.
+pub const KINDS: &[Damage] = damages![
+    // the order
+    "two posts in each other's place": |draft, rng| {
+        let (i, j) = draft.two_posts(rng);
+        draft.exchange_positions(i, j)
+    },
+    "two posts side by side in the order exchanged": |draft, rng| {
+        let i = rng.below(draft.n() - 1);
+        draft.exchange_positions(i, i + 1)
+    },
+    "v1 and v2 exchanged": |draft, _rng| draft.exchange_positions(0, 1),
+    "v2 and vn exchanged": |draft, _rng| draft.exchange_positions(1, draft.n() - 1),
+    "v1 and vn exchanged": |draft, _rng| draft.exchange_positions(0, draft.n() - 1),
+    "an order entry repeated": |draft, rng| {
+        let (i, j) = draft.two_posts(rng);
+        draft.put(draft.order_at(i), draft.get(draft.order_at(j)))
+    },
+    "an order entry of n": |draft, rng| {
+        let i = rng.below(draft.n());
+        draft.put(draft.order_at(i), draft.n() as u16)
+    },
+    "an order entry of 65535": |draft, rng| {
+        let i = rng.below(draft.n());
+        draft.put(draft.order_at(i), 65535)
+    },
+    "the order turned": |draft, rng| {
+        let mut order = draft.board.order.clone();
+        order.rotate_left(rng.between(1, draft.n() - 1));
+        draft.put_order(&order)
+    },
+    "the order reversed": |draft, _rng| {
+        let mut order = draft.board.order.clone();
+        order.reverse();
+        draft.put_order(&order)
+    },
+    "the order shuffled between v2 and vn": |draft, rng| draft.shuffle_order(2, rng),
+    "the second half of the order shuffled": |draft, rng| {
+        let half = draft.n() / 2 + 1;
+        draft.shuffle_order(half, rng)
+    },
+    "one post fitted too early or too late": |draft, rng| {
+        let mut order = draft.board.order.clone();
+        let last = draft.n() - 1;
+        if last > 2 {
+            let post = order.remove(rng.between(2, last - 1));
+            order.insert(rng.between(2, last - 1), post);
+        }
+        draft.put_order(&order)
+    },
+    // the degrees
+    "one degree up, another down": |draft, rng| {
+        let (i, j) = draft.two_posts(rng);
+        draft.change_degree(i, 1);
+        draft.change_degree(j, -1)
+    },
+    "a degree up by one": |draft, rng| {
+        let name = rng.below(draft.n());
+        draft.change_degree(name, 1)
+    },
+    "a degree down by one": |draft, rng| {
+        let name = rng.below(draft.n());
+        draft.change_degree(name, -1)
+    },
+    "a degree of 0": |draft, rng| {
+        let name = rng.below(draft.n());
+        draft.put(draft.degree_at(name), 0)
+    },
+    "a degree of 1": |draft, rng| {
+        let name = rng.below(draft.n());
+        draft.put(draft.degree_at(name), 1)
+    },
+    "a degree of n": |draft, rng| {
+        let name = rng.below(draft.n());
+        draft.put(draft.degree_at(name), draft.n() as u16)
+    },
+    "a degree of 65535": |draft, rng| {
+        let name = rng.below(draft.n());
+        draft.put(draft.degree_at(name), 65535)
+    },
+    "two degrees exchanged": |draft, rng| {
+        let (i, j) = draft.two_posts(rng);
+        draft.exchange(draft.degree_at(i), draft.degree_at(j))
+    },
+    // the lists
+    "one list reversed": |draft, rng| {
+        let name = rng.below(draft.n());
+        let mut list = draft.board.rings[name].clone();
+        list.reverse();
+        draft.put_list(name, &list)
+    },
+    "every list reversed (the board from behind)": |draft, _rng| {
+        for name in 0..draft.n() {
+            let mut list = draft.board.rings[name].clone();
+            list.reverse();
+            draft.put_list(name, &list);
+        }
+    },
+    "all entries turned past the ends of their lists": |draft, _rng| {
+        let mut entries = draft.board.rings.concat();
+        entries.rotate_left(1);
+        draft.put_list(0, &entries)
+    },
+    "an entry dropped, the rest moved up": |draft, rng| {
+        let mut entries = draft.board.rings.concat();
+        let dropped = entries.remove(rng.below(entries.len()));
+        entries.push(dropped);
+        draft.put_list(0, &entries)
+    },
+    "two entries of a list exchanged": |draft, rng| {
+        let name = rng.below(draft.n());
+        let i = rng.below(draft.degree(name));
+        let j = rng.below(draft.degree(name));
+        draft.exchange(draft.entry_at(name, i), draft.entry_at(name, j))
+    },
+    "two entries of any lists exchanged": |draft, rng| {
+        let (one, other) = (draft.any_entry_at(rng), draft.any_entry_at(rng));
+        draft.exchange(one, other)
+    },
+    "a post as its own neighbour": |draft, rng| {
+        let (name, i) = draft.any_entry(rng);
+        draft.put(draft.entry_at(name, i), name as u16)
+    },
+    "an entry of n": |draft, rng| {
+        let at = draft.any_entry_at(rng);
+        draft.put(at, draft.n() as u16)
+    },
+    "an entry of 65535": |draft, rng| {
+        let at = draft.any_entry_at(rng);
+        draft.put(at, 65535)
+    },
+    "an entry repeated in its list": |draft, rng| {
+        let (name, i) = draft.any_entry(rng);
+        let j = (i + 1) % draft.degree(name);
+        draft.put(draft.entry_at(name, i), draft.board.rings[name][j])
+    },
+    "an entry that isn't returned": |draft, rng| {
+        let (name, i) = draft.any_entry(rng);
+        let ring = &draft.board.rings[name];
+        let strangers: Vec<u16> = (0..draft.n() as u16)
+            .filter(|v| usize::from(*v) != name && !ring.contains(v))
+            .collect();
+        if !strangers.is_empty() {
+            draft.put(draft.entry_at(name, i), rng.pick(&strangers));
+        }
+    },
+    "a wire laid elsewhere, at both ends": |draft, rng| {
+        let mut rings = draft.board.rings.clone();
+        let (a, i) = draft.any_entry(rng);
+        let b = usize::from(rings[a].remove(i));
+        rings[b].retain(|&v| usize::from(v) != a);
+        let (c, d) = draft.two_posts(rng);
+        let (at_c, at_d) = (rng.below(rings[c].len() + 1), rng.below(rings[d].len() + 1));
+        rings[c].insert(at_c, d as u16);
+        rings[d].insert(at_d, c as u16);
+        draft.put_rings(&rings)
+    },
+    "a post moved within a list": |draft, rng| {
+        let name = rng.below(draft.n());
+        let mut list = draft.board.rings[name].clone();
+        let post = list.remove(rng.below(list.len()));
+        list.insert(rng.below(list.len() + 1), post);
+        draft.put_list(name, &list)
+    },
+    "two names exchanged in the lists alone": |draft, rng| {
+        let (a, b) = draft.two_posts(rng);
+        let mut rings = draft.board.rings.clone();
+        rings.swap(a, b);
+        for entry in rings.iter_mut().flatten() {
+            if usize::from(*entry) == a {
+                *entry = b as u16;
+            } else if usize::from(*entry) == b {
+                *entry = a as u16;
+            }
+        }
+        draft.put_rings(&rings)
+    },
+    "two lists exchanged with their degrees": |draft, rng| {
+        let (a, b) = draft.two_posts(rng);
+        let mut rings = draft.board.rings.clone();
+        rings.swap(a, b);
+        draft.put_rings(&rings)
+    },
+    "every entry one name too high": |draft, _rng| {
+        let entries: Vec<u16> = draft.board.rings.iter().flatten().map(|v| v + 1).collect();
+        draft.put_list(0, &entries)
+    },
+    // the header and the sum
+    "another mark": |draft, rng| draft.bytes[rng.below(3)] ^= 1 << rng.below(8),
+    "another version": |draft, rng| draft.put(3, rng.pick(&[0, 2, 256, 257, 65535])),
+    "n one off": |draft, rng| {
+        let n = draft.n() as u16;
+        draft.put(5, rng.pick(&[n - 1, n + 1]))
+    },
+    "n out of bounds": |draft, rng| draft.put(5, rng.pick(&[0, 1, 2, 1001, 4096, 65535])),
+    "another n": |draft, rng| draft.put(5, rng.between(3, 1000) as u16),
+    "a sum one off": |draft, rng| {
+        let at = draft.bytes.len() - 2;
+        let by = rng.pick(&[1, 65535, 256]);
+        draft.put(at, draft.get(at).wrapping_add(by))
+    },
+    "the two bytes of the sum exchanged": |draft, _rng| {
+        let last = draft.bytes.len() - 1;
+        draft.bytes.swap(last - 1, last)
+    },
+    "low bytes first": |draft, _rng| draft.bytes[3..].chunks_exact_mut(2).for_each(<[u8]>::reverse),
+    // the length
+    "cut in the header": |draft, rng| draft.cut(0, 7, rng),
+    "cut in the order": |draft, rng| draft.cut(8, 7 + 2 * draft.n(), rng),
+    "cut in the degrees": |draft, rng| draft.cut(8 + 2 * draft.n(), 7 + 4 * draft.n(), rng),
+    "cut in the lists": |draft, rng| draft.cut(8 + 4 * draft.n(), 16 * draft.n() - 17, rng),
+    "cut in the sum": |draft, rng| draft.cut(16 * draft.n() - 17, 16 * draft.n() - 16, rng),
+    "bytes appended": |draft, rng| {
+        let more = rng.between(1, 20);
+        draft.bytes.extend((0..more).map(|_| rng.draw() as u8))
+    },
+    "a byte lost in the middle": |draft, rng| {
+        let at = rng.below(draft.bytes.len());
+        draft.bytes.remove(at);
+    },
+    "a byte too many in the middle": |draft, rng| {
+        let at = rng.below(draft.bytes.len());
+        draft.bytes.insert(at, rng.draw() as u8)
+    },
+    "the block twice": |draft, _rng| draft.bytes.extend_from_within(..),
+    // anywhere
+    "a bit turned": |draft, rng| {
+        let at = rng.below(draft.bytes.len());
+        draft.bytes[at] ^= 1 << rng.below(8)
+    },
+    "a byte changed": |draft, rng| {
+        let at = rng.below(draft.bytes.len());
+        draft.bytes[at] = rng.draw() as u8
+    },
+    "a number replaced by one that could be a name": |draft, rng| {
+        let at = 7 + 2 * rng.below((draft.bytes.len() - 7) / 2);
+        draft.put(at, rng.below(draft.n() + 1) as u16)
+    },
+    "all zero": |draft, _rng| draft.bytes.fill(0),
+    "all zero behind the header": |draft, _rng| draft.bytes[7..].fill(0),
+    "chance behind the header": |draft, rng| {
+        draft.bytes[7..].iter_mut().for_each(|byte| *byte = rng.draw() as u8)
+    },
+    "chance names behind a right order and right degrees": |draft, rng| {
+        for at in (7 + 4 * draft.n()..draft.bytes.len() - 2).step_by(2) {
+            draft.put(at, rng.below(draft.n()) as u16);
+        }
+    },
+    "chance throughout": |draft, rng| {
+        draft.bytes.iter_mut().for_each(|byte| *byte = rng.draw() as u8)
+    },
+];
+
+/// The refusal that no block can get. As long as 12 and 13 don't come, each new
+/// post's run is a stretch of the contour, a ring of wires with v1 v2 among
+/// them. A post below position n with no later neighbour would have the whole
+/// contour around it, v1 following v2 there; so it would follow v1 at v2, and
+/// step 11 has found vn in that place.
+pub const CANNOT_COME: u16 = 14;
+
+/// Boards in pieces with the right number of entries and triangles everywhere:
+/// a plane piece (the first one's posts) beside one torus or more. Each comes
+/// with the number of posts of its plane piece.
+pub fn pieces(rng: &mut Rng) -> Vec<(Rings, usize)> {
+    let torus = seven_post_torus();
+    let triangle = stacked(3, rng);
+    let ball = stacked(4, rng);
+    let large = stacked(12, rng);
+    vec![
+        (beside(&triangle, &torus), 3),
+        (beside(&ball, &torus), 4),
+        (beside(&large, &torus), 12),
+        (beside(&ball, &grid_torus(3, 4)), 4),
+        (beside(&beside(&ball, &torus), &torus), 4),
+        (beside(&beside(&triangle, &grid_torus(3, 3)), &torus), 3),
+    ]
+}
+
+/// An order for a board in pieces: v1, v2 and vn lie on the plane piece as its
+/// outer triangle, its posts keep a canonical order of it, and the posts of
+/// the tori stand anywhere from position 3 on.
+pub fn order_of_pieces(rings: &Rings, plane_posts: usize, rng: &mut Rng) -> Board {
+    let plane = rings[..plane_posts].to_vec();
+    let plane = ordered(&plane, rng);
+    let mut order = plane.order;
+    let mut elsewhere: Vec<u16> = (plane_posts as u16..rings.len() as u16).collect();
+    rng.shuffle(&mut elsewhere);
+    // Often all together, just before vn or just after v2.
+    let together = rng.pick(&[None, Some(2), Some(order.len() - 1)]);
+    for post in elsewhere {
+        let place = together.unwrap_or_else(|| rng.between(2, order.len() - 1));
+        order.insert(place, post);
+    }
+    let mut all = plane.rings;
+    all.extend_from_slice(&rings[plane_posts..]);
+    Board { order, rings: all }
+}
+
+#[cfg(test)]
+mod tests {
+    use super::*;
+    use crate::boards::{random, Kind};
+    use crate::{linear, paper};
+    use std::collections::HashSet;
+
+    #[test]
+    fn the_kinds_reach_every_refusal_of_a_block() {
+        let mut rng = Rng::new(5);
+        let mut reached = HashSet::new();
+        for round in 0..40 {
+            let board = random(Kind::Flipped, 5 + round, &mut rng);
+            for kind in KINDS {
+                for block in both(kind, &board, &mut rng) {
+                    let reply = paper::check(&block);
+                    assert_eq!(reply, linear::check(&block), "{}", kind.name);
+                    reached.insert(reply.err().map(|refusal| refusal.number));
+                }
+            }
+        }
+        for number in (1..CANNOT_COME).map(Some) {
+            assert!(reached.contains(&number), "{number:?}");
+        }
+    }
+
+    #[test]
+    fn every_kind_changes_the_block_and_names_differ() {
+        let mut rng = Rng::new(6);
+        let names: HashSet<_> = KINDS.iter().map(|kind| kind.name).collect();
+        assert_eq!(names.len(), KINDS.len());
+        let board = random(Kind::Flipped, 12, &mut rng);
+        let right = board.block();
+        for kind in KINDS {
+            let changed = (0..50).any(|_| both(kind, &board, &mut rng)[0] != right);
+            assert!(changed, "{}", kind.name);
+        }
+    }
+
+    #[test]
+    fn a_board_in_pieces_passes_steps_1_to_11_and_the_order_refuses_it() {
+        let mut rng = Rng::new(7);
+        for (rings, plane_posts) in pieces(&mut rng) {
+            for _ in 0..100 {
+                let board = order_of_pieces(&rings, plane_posts, &mut rng);
+                let refusal = paper::check(&board.block()).unwrap_err();
+                assert!((12..=14).contains(&refusal.number), "{refusal:?}");
+            }
+        }
+    }
+}

@@ -1,0 +1,159 @@
+//! The third demand tested on what sheet wrote, with whole numbers alone.
+
+use crate::board::Board;
+
+/// A point of the grid.
+type Point = (i64, i64);
+
+/// The points of a sheet by position, counted from 0.
+fn points(sheet: &[u16]) -> Vec<Point> {
+    let point = |pair: &[u16]| (i64::from(pair[0]), i64::from(pair[1]));
+    sheet.chunks_exact(2).map(point).collect()
+}
+
+/// The wires of stage k, with both ends among v1 to vk, by position counted from 0.
+fn wires(board: &Board, k: usize) -> Vec<(usize, usize)> {
+    let mut position = vec![0; board.posts()];
+    for (i, &name) in board.order.iter().enumerate() {
+        position[name as usize] = i;
+    }
+    let mut wires = Vec::new();
+    for (u, &name) in board.order[..k].iter().enumerate() {
+        let ends = board.rings[name as usize].iter();
+        let later = ends
+            .map(|&v| position[v as usize])
+            .filter(|&v| u < v && v < k);
+        wires.extend(later.map(|v| (u, v)));
+    }
+    wires
+}
+
+/// Above zero if c lies left of the line from a to b, below zero if right of it.
+fn side(a: Point, b: Point, c: Point) -> i64 {
+    (b.0 - a.0) * (c.1 - a.1) - (b.1 - a.1) * (c.0 - a.0)
+}
+
+/// Whether c, on the line through a and b, lies on the segment between them.
+fn within(a: Point, b: Point, c: Point) -> bool {
+    let inside = |p: i64, q: i64, r: i64| p.min(q) <= r && r <= p.max(q);
+    inside(a.0, b.0, c.0) && inside(a.1, b.1, c.1)
+}
+
+/// Whether some point lies on both segments, ends counted.
+fn meet(a: Point, b: Point, c: Point, d: Point) -> bool {
+    let apart = |p: i64, q: i64, r: i64, s: i64| p.max(q) < r.min(s) || r.max(s) < p.min(q);
+    if apart(a.0, b.0, c.0, d.0) || apart(a.1, b.1, c.1, d.1) {
+        return false;
+    }
+    let (c_side, d_side) = (side(a, b, c).signum(), side(a, b, d).signum());
+    let (a_side, b_side) = (side(c, d, a).signum(), side(c, d, b).signum());
+    (c_side * d_side < 0 && a_side * b_side < 0)
+        || (c_side == 0 && within(a, b, c))
+        || (d_side == 0 && within(a, b, d))
+        || (a_side == 0 && within(c, d, a))
+        || (b_side == 0 && within(c, d, b))
+}
+
+/// Whether the segments from a to b and from a to c share a point other than a.
+fn overlap(a: Point, b: Point, c: Point) -> bool {
+    let same_way = (b.0 - a.0) * (c.0 - a.0) + (b.1 - a.1) * (c.1 - a.1) > 0;
+    side(a, b, c) == 0 && same_way
+}
+
+/// Whether two different wires meet other than at a post they share.
+fn short(points: &[Point], (a, b): (usize, usize), (c, d): (usize, usize)) -> bool {
+    let p = |i: usize| points[i];
+    if a == c {
+        overlap(p(a), p(b), p(d))
+    } else if a == d {
+        overlap(p(a), p(b), p(c))
+    } else if b == c {
+        overlap(p(b), p(a), p(d))
+    } else if b == d {
+        overlap(p(b), p(a), p(c))
+    } else {
+        meet(p(a), p(b), p(c), p(d))
+    }
+}
+
+/// What is wrong with the sheet of a stage, if anything: the posts stand on
+/// different points of the grid 2k-4 wide and k-2 high, and no two wires meet
+/// except at a post they share.
+pub fn stage_fault(board: &Board, sheet: &[u16]) -> Option<String> {
+    let points = points(sheet);
+    let k = points.len();
+    let (width, height) = (2 * k as i64 - 4, k as i64 - 2);
+    if let Some(i) = points.iter().position(|p| p.0 > width || p.1 > height) {
+        return Some(format!("position {} is off the grid", i + 1));
+    }
+    let mut sorted = points.clone();
+    sorted.sort_unstable();
+    if let Some(pair) = sorted.windows(2).find(|pair| pair[0] == pair[1]) {
+        return Some(format!("two posts stand at {:?}", pair[0]));
+    }
+    let wires = wires(board, k);
+    for (i, &one) in wires.iter().enumerate() {
+        for &other in &wires[..i] {
+            if short(&points, one, other) {
+                return Some(format!("wires {other:?} and {one:?} meet"));
+            }
+        }
+    }
+    None
+}
+
+/// What is wrong with the moves from one stage to a later one `steps` stages
+/// on, if anything: heights stay, and each step moves right by 0 to 2.
+pub fn moves_fault(before: &[u16], after: &[u16], steps: usize) -> Option<String> {
+    let moved = points(before).into_iter().zip(points(after));
+    for (i, (old, new)) in moved.enumerate() {
+        let right = new.0 - old.0;
+        if old.1 != new.1 || right < 0 || right > 2 * steps as i64 {
+            return Some(format!("position {} moves from {old:?} to {new:?}", i + 1));
+        }
+    }
+    None
+}
+
+#[cfg(test)]
+mod tests {
+    use super::*;
+    use crate::board::d;
+
+    #[test]
+    fn segments_meet_with_ends_counted() {
+        assert!(meet((0, 0), (2, 2), (0, 2), (2, 0)));
+        assert!(meet((0, 0), (2, 0), (1, 0), (1, 5)));
+        assert!(meet((0, 0), (2, 0), (2, 0), (3, 7)));
+        assert!(meet((0, 0), (4, 4), (1, 1), (2, 2)));
+        assert!(!meet((0, 0), (4, 4), (5, 5), (6, 6)));
+        assert!(!meet((0, 0), (2, 0), (0, 1), (2, 1)));
+        assert!(!meet((0, 0), (4, 2), (2, 0), (3, 1)));
+    }
+
+    #[test]
+    fn wires_from_one_post_overlap_only_along_one_line() {
+        assert!(overlap((0, 0), (1, 1), (3, 3)));
+        assert!(!overlap((0, 0), (1, 1), (-3, -3)));
+        assert!(!overlap((0, 0), (1, 1), (1, 0)));
+    }
+
+    #[test]
+    fn a_sheet_with_two_wires_that_meet_is_caught() {
+        let right = [0, 0, 6, 0, 3, 1, 3, 2, 3, 3];
+        assert_eq!(stage_fault(&d(), &right), None);
+        // Post 2 left behind at the last stage, as if only contour posts moved.
+        assert_eq!(stage_fault(&d(), &[0, 0, 6, 0, 2, 1, 3, 2, 3, 3]), None);
+        assert!(stage_fault(&d(), &[0, 0, 6, 0, 1, 2, 3, 2, 3, 3]).is_some());
+        assert!(stage_fault(&d(), &[0, 0, 6, 0, 3, 2, 3, 2, 3, 3]).is_some());
+        assert!(stage_fault(&d(), &[0, 0, 7, 0, 3, 1, 3, 2, 3, 3]).is_some());
+    }
+
+    #[test]
+    fn moves_are_to_the_right_by_at_most_two() {
+        assert_eq!(moves_fault(&[0, 0, 2, 0], &[0, 0, 4, 0], 1), None);
+        assert!(moves_fault(&[0, 0, 2, 0], &[0, 0, 5, 0], 1).is_some());
+        assert!(moves_fault(&[0, 0, 2, 0], &[0, 0, 1, 0], 1).is_some());
+        assert!(moves_fault(&[0, 0, 2, 0], &[0, 1, 2, 0], 1).is_some());
+    }
+}

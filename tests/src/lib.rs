@@ -1,0 +1,18 @@
+//! Tests of the wiring-sheet unit from outside.
+//!
+//! Two implementations of the paper stand here beside the unit's C library:
+//! [`paper`] does literally what the paper says, [`linear`] is what a plain
+//! programmer would write for speed. Neither shares anything with the unit.
+
+pub mod board;
+pub mod boards;
+pub mod cases;
+pub mod compare;
+pub mod damage;
+pub mod ffi;
+pub mod geometry;
+pub mod linear;
+pub mod paper;
+pub mod reply;
+pub mod rng;
+pub mod text;

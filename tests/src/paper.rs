@@ -1,0 +1,368 @@
+//! The paper done literally: every step of the table in its order, every stage
+//! by moving whole groups. It is written to be held beside the paper, not for
+//! speed, and shares nothing with any other implementation.
+
+use crate::reply::{Record, Refusal, Standing};
+
+/// Check a block: its number of posts, or a refusal.
+pub fn check(block: &[u8]) -> Result<u16, Refusal> {
+    accepted(block).map(|board| board.n as u16)
+}
+
+/// Write the sheet of a stage to the buffer: the count of entries written, or a refusal.
+pub fn sheet(block: &[u8], stage: usize, buffer: &mut [u16]) -> Result<u16, Refusal> {
+    let board = accepted(block)?;
+    stage_allowed(&board, stage)?;
+    if buffer.len() < 2 * stage {
+        return refuse(16, 0);
+    }
+    let drawing = Drawing::at_stage(&board, stage);
+    for position in 1..=stage {
+        let (x, y) = drawing.point(board.v(position));
+        buffer[2 * position - 2] = x;
+        buffer[2 * position - 1] = y;
+    }
+    Ok(2 * stage as u16)
+}
+
+/// A post's record at a stage, or a refusal.
+pub fn post(block: &[u8], stage: usize, name: usize) -> Result<Record, Refusal> {
+    let board = accepted(block)?;
+    stage_allowed(&board, stage)?;
+    if name >= board.n {
+        return refuse(17, 0);
+    }
+    Ok(Drawing::at_stage(&board, stage).record(name))
+}
+
+fn refuse<T>(number: u16, place: usize) -> Result<T, Refusal> {
+    Err(Refusal {
+        number,
+        place: place as u16,
+    })
+}
+
+/// Step 15.
+fn stage_allowed(board: &Board, stage: usize) -> Result<(), Refusal> {
+    if stage < 3 || stage > board.n {
+        return refuse(15, 0);
+    }
+    Ok(())
+}
+
+/// What a block says: its order and its lists, with the position of each name.
+struct Board {
+    n: usize,
+    order: Vec<usize>,
+    positions: Vec<usize>,
+    lists: Vec<Vec<usize>>,
+}
+
+/// Steps 1 to 14.
+fn accepted(block: &[u8]) -> Result<Board, Refusal> {
+    let n = header(block)?;
+    let order = order(block, n)?;
+    let degrees = degrees(block, n)?;
+    let lists = lists(block, &degrees);
+    let mut positions = vec![0; n];
+    for position in 1..=n {
+        positions[order[position - 1]] = position;
+    }
+    let board = Board {
+        n,
+        order,
+        positions,
+        lists,
+    };
+    board.rings()?;
+    board.triangles()?;
+    board.outer_triangle()?;
+    for k in 3..=n {
+        board.canonical_at(k)?;
+    }
+    Ok(board)
+}
+
+/// The 16-bit number at a byte offset, high byte first.
+fn number_at(block: &[u8], offset: usize) -> usize {
+    usize::from(block[offset]) * 256 + usize::from(block[offset + 1])
+}
+
+/// Steps 1 to 6.
+fn header(block: &[u8]) -> Result<usize, Refusal> {
+    if block.len() < 7 {
+        return refuse(1, 0);
+    }
+    if block[0..3] != [0x50, 0x47, 0x42] {
+        return refuse(2, 0);
+    }
+    if number_at(block, 3) != 1 {
+        return refuse(3, 0);
+    }
+    let n = number_at(block, 5);
+    if !(3..=1000).contains(&n) {
+        return refuse(4, 0);
+    }
+    if block.len() != 16 * n - 15 {
+        return refuse(5, 0);
+    }
+    let last = block.len() - 2;
+    let sum: usize = block[..last].iter().map(|&byte| usize::from(byte)).sum();
+    if sum % 65536 != number_at(block, last) {
+        return refuse(6, 0);
+    }
+    Ok(n)
+}
+
+/// Step 7: the names in positions 1 to n.
+fn order(block: &[u8], n: usize) -> Result<Vec<usize>, Refusal> {
+    let mut order = Vec::new();
+    for position in 1..=n {
+        let name = number_at(block, 7 + 2 * (position - 1));
+        if name >= n || order.contains(&name) {
+            return refuse(7, position);
+        }
+        order.push(name);
+    }
+    Ok(order)
+}
+
+/// Step 8: the degrees of names 0 to n-1.
+fn degrees(block: &[u8], n: usize) -> Result<Vec<usize>, Refusal> {
+    let mut degrees = Vec::new();
+    for name in 0..n {
+        let degree = number_at(block, 7 + 2 * n + 2 * name);
+        if degree < 2 || degree > n - 1 {
+            return refuse(8, name);
+        }
+        degrees.push(degree);
+    }
+    if degrees.iter().sum::<usize>() != 6 * n - 12 {
+        return refuse(8, n);
+    }
+    Ok(degrees)
+}
+
+/// The neighbour lists of names 0 to n-1.
+fn lists(block: &[u8], degrees: &[usize]) -> Vec<Vec<usize>> {
+    let mut offset = 7 + 4 * degrees.len();
+    let mut lists = Vec::new();
+    for &degree in degrees {
+        let list = (0..degree).map(|i| number_at(block, offset + 2 * i));
+        lists.push(list.collect());
+        offset += 2 * degree;
+    }
+    lists
+}
+
+/// The entry that follows `a` in a ring: the first entry follows the last.
+fn follower(ring: &[usize], a: usize) -> Option<usize> {
+    let i = ring.iter().position(|&entry| entry == a)?;
+    Some(ring[(i + 1) % ring.len()])
+}
+
+impl Board {
+    /// The post in a position.
+    fn v(&self, position: usize) -> usize {
+        self.order[position - 1]
+    }
+
+    /// Step 9: each entry is below n, isn't the post itself, occurs once in its
+    /// list, and is returned.
+    fn rings(&self) -> Result<(), Refusal> {
+        for u in 0..self.n {
+            let list = &self.lists[u];
+            for &v in list {
+                let times = list.iter().filter(|&&entry| entry == v).count();
+                if v >= self.n || v == u || times != 1 || !self.lists[v].contains(&u) {
+                    return refuse(9, u);
+                }
+            }
+        }
+        Ok(())
+    }
+
+    /// Step 10: whenever w follows v at u, u follows w at v.
+    fn triangles(&self) -> Result<(), Refusal> {
+        for u in 0..self.n {
+            let ring = &self.lists[u];
+            for i in 0..ring.len() {
+                let (v, w) = (ring[i], ring[(i + 1) % ring.len()]);
+                if follower(&self.lists[v], w) != Some(u) {
+                    return refuse(10, u);
+                }
+            }
+        }
+        Ok(())
+    }
+
+    /// Step 11: v2 is a neighbour of v1, and vn follows v1 at v2.
+    fn outer_triangle(&self) -> Result<(), Refusal> {
+        let (v1, v2, vn) = (self.v(1), self.v(2), self.v(self.n));
+        if !self.lists[v1].contains(&v2) || follower(&self.lists[v2], v1) != Some(vn) {
+            return refuse(11, 0);
+        }
+        Ok(())
+    }
+
+    /// For each entry of vk's ring, whether it stands in an earlier position.
+    fn earlier(&self, k: usize) -> Vec<bool> {
+        let ring = &self.lists[self.v(k)];
+        ring.iter().map(|&v| self.positions[v] < k).collect()
+    }
+
+    /// Steps 12, 13 and 14 at position k.
+    fn canonical_at(&self, k: usize) -> Result<(), Refusal> {
+        let earlier = self.earlier(k);
+        if earlier.iter().filter(|&&is| is).count() < 2 {
+            return refuse(12, k);
+        }
+        if run_starts(&earlier).len() > 1 {
+            return refuse(13, k);
+        }
+        if k < self.n && earlier.iter().all(|&is| is) {
+            return refuse(14, k);
+        }
+        Ok(())
+    }
+
+    /// The run of vk, read counter-clockwise, from left to right on the
+    /// contour. At k = n it is the whole ring, starting at v1.
+    fn run(&self, k: usize) -> Vec<usize> {
+        let ring = &self.lists[self.v(k)];
+        let earlier = self.earlier(k);
+        let start = if k == self.n {
+            ring.iter().position(|&v| v == self.v(1)).unwrap()
+        } else {
+            run_starts(&earlier)[0]
+        };
+        let turned = (0..ring.len()).map(|i| (start + i) % ring.len());
+        turned
+            .take_while(|&i| earlier[i])
+            .map(|i| ring[i])
+            .collect()
+    }
+}
+
+/// The places in a ring where a run of earlier neighbours starts: the entry
+/// is earlier and the one before it isn't. There is none if all are earlier.
+fn run_starts(earlier: &[bool]) -> Vec<usize> {
+    let before = |i: usize| earlier[(i + earlier.len() - 1) % earlier.len()];
+    let starts = (0..earlier.len()).filter(|&i| earlier[i] && !before(i));
+    starts.collect()
+}
+
+/// A stage: where the posts stand, the contour from left to right, the group of
+/// each contour post, and by whom the others are covered. All by name.
+struct Drawing {
+    points: Vec<Option<(i64, i64)>>,
+    contour: Vec<usize>,
+    groups: Vec<Vec<usize>>,
+    covered_by: Vec<Option<usize>>,
+}
+
+impl Drawing {
+    fn at_stage(board: &Board, stage: usize) -> Self {
+        let mut drawing = Self::at_stage_3(board);
+        for k in 4..=stage {
+            drawing.place(board.v(k), &board.run(k));
+        }
+        drawing
+    }
+
+    fn at_stage_3(board: &Board) -> Self {
+        let (v1, v2, v3) = (board.v(1), board.v(2), board.v(3));
+        let mut points = vec![None; board.n];
+        points[v1] = Some((0, 0));
+        points[v3] = Some((1, 1));
+        points[v2] = Some((2, 0));
+        let mut groups = vec![Vec::new(); board.n];
+        for v in [v1, v3, v2] {
+            groups[v] = vec![v];
+        }
+        Drawing {
+            points,
+            contour: vec![v1, v3, v2],
+            groups,
+            covered_by: vec![None; board.n],
+        }
+    }
+
+    /// From one stage to the next: place the post with this run.
+    fn place(&mut self, new: usize, run: &[usize]) {
+        let p = self.contour_index(run[0]);
+        let q = self.contour_index(run[run.len() - 1]);
+        assert_eq!(
+            self.contour[p..=q],
+            *run,
+            "a run is a stretch of the contour"
+        );
+
+        let between = self.contour[p + 1..q].to_vec();
+        let right = self.contour[q..].to_vec();
+        self.move_groups(&between, 1);
+        self.move_groups(&right, 2);
+
+        let (xl, yl) = self.points[run[0]].unwrap();
+        let (xr, yr) = self.points[run[run.len() - 1]].unwrap();
+        self.points[new] = Some((half(xl + xr + yr - yl), half(xr - xl + yr + yl)));
+
+        self.groups[new] = vec![new];
+        for &w in &between {
+            let group = std::mem::take(&mut self.groups[w]);
+            self.groups[new].extend(group);
+            self.covered_by[w] = Some(new);
+        }
+        self.contour.splice(p + 1..q, [new]);
+    }
+
+    fn contour_index(&self, name: usize) -> usize {
+        self.contour.iter().position(|&w| w == name).unwrap()
+    }
+
+    /// Move every post in the groups of these contour posts to the right.
+    fn move_groups(&mut self, contour_posts: &[usize], by: i64) {
+        for &w in contour_posts {
+            for &member in &self.groups[w] {
+                self.points[member].as_mut().unwrap().0 += by;
+            }
+        }
+    }
+
+    /// Where a post stands; a waiting post has x = y = 0.
+    fn point(&self, name: usize) -> (u16, u16) {
+        let (x, y) = self.points[name].unwrap_or((0, 0));
+        (x.try_into().unwrap(), y.try_into().unwrap())
+    }
+
+    fn record(&self, name: usize) -> Record {
+        let (x, y) = self.point(name);
+        Record {
+            x,
+            y,
+            standing: self.standing(name),
+        }
+    }
+
+    /// The left neighbour of v1 is given as v1, the right neighbour of v2 as v2.
+    fn standing(&self, name: usize) -> Standing {
+        if let Some(by) = self.covered_by[name] {
+            return Standing::Covered { by: by as u16 };
+        }
+        if self.points[name].is_none() {
+            return Standing::Waiting;
+        }
+        let i = self.contour_index(name);
+        let last = self.contour.len() - 1;
+        Standing::OnContour {
+            left: self.contour[i.saturating_sub(1)] as u16,
+            right: self.contour[last.min(i + 1)] as u16,
+        }
+    }
+}
+
+/// Half of an even number.
+fn half(sum: i64) -> i64 {
+    assert_eq!(sum.rem_euclid(2), 0, "both halves are exact");
+    sum / 2
+}

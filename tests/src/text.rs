@@ -1,0 +1,346 @@
+//! The readable form of a block.
+//!
+//! ```text
+//! # a remark, to the end of its line
+//! order 0 1 2 3 4
+//! 0: 1 2 3 4
+//! 1: 4 3 2 0
+//! ```
+//!
+//! `order` gives the names in the order of fitting; each further line gives a
+//! post's name and its neighbours, counter-clockwise.
+
+use crate::board::{sum, Board};
+use crate::paper;
+use std::fmt::{self, Display, Write};
+
+/// What is wrong with a text, and on which line (none: with the text as a whole).
+#[derive(Debug, PartialEq, Eq)]
+pub struct TextError {
+    line: Option<usize>,
+    message: String,
+}
+
+impl Display for TextError {
+    fn fmt(&self, f: &mut fmt::Formatter) -> fmt::Result {
+        match self.line {
+            Some(line) => write!(f, "line {line}: {}", self.message),
+            None => write!(f, "the text: {}", self.message),
+        }
+    }
+}
+
+fn wrong<T>(line: Option<usize>, message: String) -> Result<T, TextError> {
+    Err(TextError { line, message })
+}
+
+/// Something said on a line.
+struct Said {
+    line: usize,
+    numbers: Vec<u16>,
+}
+
+/// Read a board from its text. The board needn't be a right one, but a block
+/// must be able to hold it: 3 to 1,000 posts, a list for each, 6n-12 entries.
+pub fn parse(text: &str) -> Result<Board, TextError> {
+    let mut order: Option<Said> = None;
+    let mut lists: Vec<(u16, Said)> = Vec::new();
+    for (index, whole_line) in text.lines().enumerate() {
+        let line = index + 1;
+        let words = whole_line.split('#').next().unwrap_or("").trim();
+        if words.is_empty() {
+            continue;
+        }
+        if let Some(names) = words.strip_prefix("order") {
+            if let Some(first) = &order {
+                let message = format!("a second order; the first is on line {}", first.line);
+                return wrong(Some(line), message);
+            }
+            let numbers = numbers(names, line)?;
+            order = Some(Said { line, numbers });
+        } else if let Some((name, neighbours)) = words.split_once(':') {
+            let name = number(name.trim(), line)?;
+            let numbers = numbers(neighbours, line)?;
+            lists.push((name, Said { line, numbers }));
+        } else {
+            let message = format!("`{words}` is neither `order ..` nor `name: ..`");
+            return wrong(Some(line), message);
+        }
+    }
+    match order {
+        Some(order) => assemble(order, lists),
+        None => wrong(None, "there is no line `order ..`".into()),
+    }
+}
+
+fn number(word: &str, line: usize) -> Result<u16, TextError> {
+    word.parse().or_else(|_| {
+        let message = format!("`{word}` is not a number from 0 to 65535");
+        wrong(Some(line), message)
+    })
+}
+
+fn numbers(words: &str, line: usize) -> Result<Vec<u16>, TextError> {
+    let words = words.split_whitespace();
+    words.map(|word| number(word, line)).collect()
+}
+
+fn assemble(order: Said, lists: Vec<(u16, Said)>) -> Result<Board, TextError> {
+    let n = order.numbers.len();
+    if !(3..=1000).contains(&n) {
+        let message = format!("the order has {n} posts; a board has 3 to 1000");
+        return wrong(Some(order.line), message);
+    }
+    let mut rings: Vec<Option<Said>> = (0..n).map(|_| None).collect();
+    for (name, said) in lists {
+        let line = Some(said.line);
+        let Some(place) = rings.get_mut(usize::from(name)) else {
+            let message = format!("post {name}, but the order has {n} posts: 0 to {}", n - 1);
+            return wrong(line, message);
+        };
+        if let Some(first) = place {
+            let message = format!("a second list of post {name}; see line {}", first.line);
+            return wrong(line, message);
+        }
+        *place = Some(said);
+    }
+    if let Some(name) = rings.iter().position(Option::is_none) {
+        return wrong(None, format!("post {name} has no list"));
+    }
+    let rings: Vec<Vec<u16>> = rings
+        .into_iter()
+        .flatten()
+        .map(|said| said.numbers)
+        .collect();
+    let entries: usize = rings.iter().map(Vec::len).sum();
+    if entries != 6 * n - 12 {
+        let message = format!(
+            "the lists have {entries} entries; a board of {n} posts has {}",
+            6 * n - 12
+        );
+        return wrong(None, message);
+    }
+    Ok(Board {
+        order: order.numbers,
+        rings,
+    })
+}
+
+/// A block as text.
+pub struct Shown {
+    pub text: String,
+    /// Whether the text gives the block back, byte for byte.
+    pub whole: bool,
+}
+
+/// Show a block as text: a damaged one as far as it can be read, with remarks
+/// on what could not be.
+pub fn show(block: &[u8]) -> Shown {
+    let mut text = match paper::check(block) {
+        Ok(n) => format!("# accepted: a board of {n} posts\n"),
+        Err(refusal) => format!("# refused {} {}\n", refusal.number, refusal.place),
+    };
+    if block.len() < 7 {
+        remark(
+            &mut text,
+            format!("only {} bytes: there is no header", block.len()),
+        );
+    } else {
+        show_parts(&mut text, block);
+    }
+    let whole = parse(&text).is_ok_and(|board| board.block() == block);
+    if !whole {
+        remark(&mut text, "this text does not give the block back".into());
+    }
+    Shown { text, whole }
+}
+
+fn remark(text: &mut String, what: String) {
+    writeln!(text, "# {what}").unwrap();
+}
+
+fn line(text: &mut String, start: impl Display, numbers: &[u16]) {
+    write!(text, "{start}").unwrap();
+    for number in numbers {
+        write!(text, " {number}").unwrap();
+    }
+    text.push('\n');
+}
+
+/// The parts of a block after its first seven bytes are known to be there.
+fn show_parts(text: &mut String, block: &[u8]) {
+    if &block[..3] != b"PGB" {
+        remark(text, format!("the mark is {:02x?}, not PGB", &block[..3]));
+    }
+    let mut header = Reader(&block[3..7]);
+    let (version, n) = (header.numbers(1)[0], usize::from(header.numbers(1)[0]));
+    if version != 1 {
+        remark(text, format!("the version is {version}, not 1"));
+    }
+    if !(3..=1000).contains(&n) {
+        remark(text, format!("n is {n}, not from 3 to 1000"));
+    }
+    let right_length = 16 * n as i64 - 15;
+    let has_sum = block.len() as i64 >= right_length && right_length >= 9;
+    if block.len() as i64 != right_length {
+        let message = format!("{} bytes, but n = {n} needs {right_length}", block.len());
+        remark(text, message);
+    }
+    let end = if has_sum {
+        right_length as usize - 2
+    } else {
+        block.len()
+    };
+    show_numbers(text, &mut Reader(&block[7..end]), n);
+    if !has_sum {
+        remark(text, "there is no sum".into());
+        return;
+    }
+    let told = Reader(&block[end..]).numbers(1)[0];
+    let right = sum(&block[..end]);
+    if told == right {
+        remark(text, format!("sum {told}"));
+    } else {
+        remark(text, format!("sum {told}, but the bytes give {right}"));
+    }
+    let beyond = block.len() - end - 2;
+    if beyond > 0 {
+        remark(text, format!("bytes beyond the sum: {beyond}"));
+    }
+}
+
+/// The order, the degrees and the lists.
+fn show_numbers(text: &mut String, reader: &mut Reader, n: usize) {
+    let order = reader.numbers(n);
+    line(text, "order", &order);
+    if order.len() < n {
+        remark(
+            text,
+            format!("the order ends after {} of {n} entries", order.len()),
+        );
+    }
+    let degrees = reader.numbers(n);
+    if degrees.len() < n {
+        remark(text, format!("there are {} of {n} degrees", degrees.len()));
+    }
+    for (name, &degree) in degrees.iter().enumerate() {
+        let list = reader.numbers(usize::from(degree));
+        line(text, format!("{name}:"), &list);
+        if list.len() < usize::from(degree) {
+            remark(
+                text,
+                format!("list {name} ends after {} of {degree} entries", list.len()),
+            );
+        }
+    }
+    if !reader.0.is_empty() {
+        remark(
+            text,
+            format!("bytes that belong to no list: {}", reader.0.len()),
+        );
+    }
+}
+
+/// Reads 16-bit numbers, high byte first.
+struct Reader<'a>(&'a [u8]);
+
+impl Reader<'_> {
+    /// The next `count` numbers, or fewer if the bytes run out.
+    fn numbers(&mut self, count: usize) -> Vec<u16> {
+        let count = count.min(self.0.len() / 2);
+        let (read, rest) = self.0.split_at(2 * count);
+        self.0 = rest;
+        let pairs = read.chunks_exact(2);
+        pairs
+            .map(|pair| u16::from_be_bytes([pair[0], pair[1]]))
+            .collect()
+    }
+}
+
+#[cfg(test)]
+mod tests {
+    use super::*;
+    use crate::board::{d, t};
+    use crate::boards::{random, KINDS};
+    use crate::damage;
+    use crate::rng::Rng;
+
+    fn message(text: &str) -> String {
+        parse(text).unwrap_err().to_string()
+    }
+
+    #[test]
+    fn a_block_goes_to_text_and_back() {
+        let mut rng = Rng::new(3);
+        let mut boards = vec![t(), d()];
+        boards.extend(KINDS.map(|kind| random(kind, 40, &mut rng)));
+        for board in boards {
+            let block = board.block();
+            let shown = show(&block);
+            assert!(shown.whole);
+            assert_eq!(parse(&shown.text), Ok(board));
+        }
+    }
+
+    #[test]
+    fn the_block_of_d_has_65_bytes_and_sum_285() {
+        let block = d().block();
+        assert_eq!(block.len(), 65);
+        assert_eq!(block[63..], 285u16.to_be_bytes());
+    }
+
+    #[test]
+    fn a_damaged_block_is_shown_as_far_as_it_can_be_read() {
+        let mut rng = Rng::new(4);
+        for kind in damage::KINDS {
+            for block in damage::both(kind, &d(), &mut rng) {
+                let shown = show(&block);
+                let back = parse(&shown.text).map(|board| board.block());
+                assert_eq!(shown.whole, back.as_ref() == Ok(&block), "{}", kind.name);
+                assert!(shown.text.starts_with("# "), "{}", kind.name);
+            }
+        }
+        for length in 0..65 {
+            assert!(!show(&d().block()[..length]).whole);
+        }
+    }
+
+    #[test]
+    fn errors_say_what_and_where() {
+        let t = "order 0 1 2\n0: 1 2\n1: 2 0\n2: 0 1\n";
+        assert!(parse(t).is_ok());
+        assert_eq!(message("0: 1 2\n"), "the text: there is no line `order ..`");
+        assert_eq!(
+            message("order 0 1 x\n"),
+            "line 1: `x` is not a number from 0 to 65535"
+        );
+        assert_eq!(
+            message("# T\norder 0 1\n"),
+            "line 2: the order has 2 posts; a board has 3 to 1000"
+        );
+        assert_eq!(
+            message(&format!("{t}order 0 1 2\n")),
+            "line 5: a second order; the first is on line 1"
+        );
+        assert_eq!(
+            message(&format!("{t}2: 0 1\n")),
+            "line 5: a second list of post 2; see line 4"
+        );
+        assert_eq!(
+            message(&format!("{t}3: 0 1\n")),
+            "line 5: post 3, but the order has 3 posts: 0 to 2"
+        );
+        assert_eq!(
+            message("order 0 1 2\n0: 1 2\n1: 2 0\n"),
+            "the text: post 2 has no list"
+        );
+        assert_eq!(
+            message("order 0 1 2\n0: 1 2\n1: 2 0\n2: 0\n"),
+            "the text: the lists have 5 entries; a board of 3 posts has 6"
+        );
+        assert_eq!(
+            message("order 0 1 2\nwires\n"),
+            "line 2: `wires` is neither `order ..` nor `name: ..`"
+        );
+    }
+}
