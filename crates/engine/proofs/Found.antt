@@ -7,10 +7,10 @@ use mathlib.Core.Bool.{Bool, true, false, not, cond, _&&_}
 use mathlib.Core.List.{List, [], _∷_, _++_}
 use native.Mathlib.Omega.{arith}
 use native.Mathlib.Decide.{decLt}
-use lib.Dec.{leb}
+use lib.Dec.{ltb}
 use lib.ListN.{length, getD, take, drop, length-append, take-append-drop}
 use lib.Seq.{slice, getD-take}
-use borrow.Author.Tests.{le-leb, lt-leb}
+use borrow.Author.Tests.{lt-ltb, le-ltb}
 use Rattle.words.specs.Lists.{In, mem, count, lastOf}
 use Rattle.words.specs.Positions.{post, earlier}
 use Rattle.words.proofs.Lists.{Head, Adj, Once, in-dec, in-head, adj-in-left, adj-in-right, last-in}
@@ -30,7 +30,8 @@ use Rattle.order.proofs.Sound.{Passes, passes-names, passes-faces, passes-outer
 use Rattle.placing.specs.Stages.{Stage, stage}
 use Rattle.placing.proofs.Steps.{Step, step-at, contours, stage-placed}
 use Rattle.placing.proofs.Placed.{p-placed}
-use Rattle.engine.specs.Found.{Ranked, upTo, opens}
+use Rattle.engine.specs.Found.{before as earlier-than, opens}
+use Rattle.order.specs.Held.{Ranked}
 
 -- ---- tests that agree on the entries find the same
 module _ (p q : ℕ → Bool) where
@@ -39,23 +40,19 @@ module _ (p q : ℕ → Bool) where
   opens-same z w [] h = refl
   opens-same z w (y ∷ l) h = rw (h y (inl refl), opens-same z (q y) l (λ a i. h a (inr i))) refl
 
-  pub count-same : (l : List ℕ) → ((a : ℕ) → In a l → p a ≡ q a) → count p l ≡ count q l
-  unfolding count
-  count-same [] h = refl
-  count-same (y ∷ l) h = rw (h y (inl refl), count-same l (λ a i. h a (inr i))) refl
-
 -- a post placed, by its position
-pub placed-by : (vs rank : List ℕ) (k : ℕ) → Once vs → Ranked vs rank → (a : ℕ) → a < length vs → mem (take k vs) a ≡ upTo rank k a
+pub placed-by : (vs rank : List ℕ) (k : ℕ) → Once vs → Ranked vs rank → (a : ℕ) → a < length vs → mem (take k vs) a ≡ earlier-than rank (k + 1) a
 placed-by vs rank k o r a h = go (decLt k (getD rank a 0))
   where
-    go : Dec (k < getD rank a 0) → mem (take k vs) a ≡ leb (getD rank a 0) k
+    go : Dec (k < getD rank a 0) → mem (take k vs) a ≡ ltb (getD rank a 0) (k + 1)
     go (no n) =
-        let t = r a h in
-        rw (le-leb (getD rank a 0) k (omega arith)) (is-true _ (in-mem (take k vs) a (subst (λ (b : ℕ). In b (take k vs)) (t .2) (take-in k vs (getD rank a 0 - 1) (omega (arith, t)) (omega (arith, t))))))
+        let t = r .name a h in
+        rw (lt-ltb (getD rank a 0) (k + 1) (omega arith))
+        (is-true (mem (take k vs) a) (in-mem (take k vs) a (subst (λ (b : ℕ). In b (take k vs)) (t .2) (take-in k vs (getD rank a 0 - 1) (omega (arith, t)) (omega (arith, t))))))
     go (yes n) =
-        let t = r a h in
-        rw (lt-leb (getD rank a 0) k n)
-        (is-false _ (λ m.
+        let t = r .name a h in
+        rw (le-ltb (getD rank a 0) (k + 1) (omega arith))
+        (is-false (mem (take k vs) a) (λ m.
         let i = in-take k vs a (mem-in (take k vs) a m) in
         let e = once-different vs o (i .0) (getD rank a 0 - 1) (i .2) (omega (arith, t)) (i .3 ∙ sym (t .2)) in
         omega (arith, t, i .1)))

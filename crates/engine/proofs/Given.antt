@@ -14,6 +14,7 @@ use Rattle.words.specs.Positions.{post}
 use Rattle.words.proofs.Lists.{Head, Adj, Once, in-dec, in-head, adj-in-left, adj-tail, last-in}
 use Rattle.words.proofs.Tests.{is-true, is-false, in-mem, mem-in, place-in, once-different}
 use Rattle.words.proofs.Positions.{in-take}
+use Rattle.block.specs.Layout.{limit}
 use Rattle.rings.specs.Held.{held}
 use Rattle.rings.proofs.Around.{After}
 use Rattle.order.proofs.Contour.{Contour}
@@ -24,7 +25,7 @@ use Rattle.placing.specs.declared.Standing.{Standing}
 use Rattle.placing.specs.declared.Standing.the-variants.{Waiting, OnContour, Covered}
 use Rattle.placing.specs.declared.Record.{Record}
 use Rattle.placing.proofs.Steps.{contours, stage-placed}
-use Rattle.engine.specs.Found.{upTo, Accepted}
+use Rattle.engine.specs.Found.{before, Accepted}
 use Rattle.engine.specs.Shows.{Shows, Room, Holds, Drawn}
 use Rattle.engine.specs.Sheet.{pairs, pickStanding, pickRecord, recordBy}
 use Rattle.engine.proofs.Found.{placed-by}
@@ -168,7 +169,7 @@ module _ (at ents vs rank : List ℕ) (A : Accepted at ents vs rank) (k : ℕ) (
   unfolding recordOf
   record-is u l = go (in-dec u (stage (held at ents) (take k vs) .placed))
     where
-      t : mem (stage (held at ents) (take k vs) .placed) u ≡ upTo rank k u
+      t : mem (stage (held at ents) (take k vs) .placed) u ≡ before rank (k + 1) u
       t = ap (λ (r : List ℕ). mem r u) placed-is ∙ placed-by vs rank k (passes-names G vs (A .passes) .once) (A .ranked) u l
 
       go : Dec (In u (stage (held at ents) (take k vs) .placed)) → recordBy rank k xs ys cover left right u
@@ -188,10 +189,11 @@ module _ (at ents vs rank : List ℕ) (A : Accepted at ents vs rank) (k : ℕ) (
   pub sheet-is : (B B' : List ℕ) → B' ≡ pairs xs ys (take k vs) ++ drop (2 * k) B → B' ≡ entriesOf (stage (held at ents) (take k vs)) ++ drop (2 * k) B
   sheet-is B B' e = e ∙ ap (λ (l : List ℕ). l ++ drop (2 * k) B) entries-are
 
-  pub record-ready : (u : ℕ) → u < length vs → (u < length rank) × (u < length xs) × (u < length ys) × (u < length cover) × (u < length left) × (u < length right)
+  pub record-ready : (u : ℕ) → u < length vs → (k ≤ limit) × (u < length rank) × (u < length xs) × (u < length ys) × (u < length cover) × (u < length left) × (u < length right)
   record-ready u l =
       let W = D .holds .room in (
-        omega (arith, A .in-rank),
+        omega (arith, A .most),
+        omega (arith, A .ranked .room),
         omega (arith, D .roomy),
         omega (arith, W .of-ys),
         omega (arith, W .of-cover),

@@ -8,7 +8,7 @@ use native.Mathlib.Omega.{arith}
 use lib.ListN.{length, getD, take}
 use lib.Seq.{slice, length-slice, length-take-le}
 use Rattle.words.specs.Lists.{In, mem, count, lastOf}
-use Rattle.words.specs.Positions.{post}
+use Rattle.words.specs.Positions.{post, earlier}
 use Rattle.words.proofs.Tests.{place-in}
 use Rattle.words.proofs.Positions.{in-take}
 use Rattle.block.specs.Layout.{limit}
@@ -21,10 +21,10 @@ use Rattle.order.proofs.Sound.{Passes, passes-names, passes-faces}
 use Rattle.placing.specs.Stages.{Stage, stage, place}
 use Rattle.placing.proofs.Steps.{Step, step-at, stage-next, stage-placed}
 use Rattle.engine.specs.Arrays.{Ready, Over}
-use Rattle.engine.specs.Found.{Ranked, upTo, opens, Accepted}
+use Rattle.engine.specs.Found.{before as earlier-than, opens, Accepted}
 use Rattle.engine.specs.Shows.{Shows, Room, Holds}
 use Rattle.engine.proofs.Kept.{Kept, kept-at}
-use Rattle.engine.proofs.Found.{opens-same, count-same, placed-by, run-found}
+use Rattle.engine.proofs.Found.{opens-same, placed-by, run-found}
 use Rattle.engine.proofs.Shown.{ready, shown, roomy}
 
 last-at : (x : ℕ) (l : List ℕ) → 0 < length l → lastOf x l ≡ getD l (length l - 1) 0
@@ -87,10 +87,13 @@ module _ (at ents vs rank : List ℕ) (A : Accepted at ents vs rank) (k : ℕ) (
     entry : (c : ℕ) → b ≤ c → c < e → In (getD ents c 0) (slice b e ents)
     entry c x y = subst (λ (a : ℕ). In a (slice b e ents)) (part-at ents b e c x y in-ents) (place-in (slice b e ents) (c - b) (omega (arith, long)))
 
-    pub ranked : (c : ℕ) → b ≤ c → c < e → getD ents c 0 < length rank
-    ranked c x y = omega (arith, in-ring (getD ents c 0) (entry c x y), A .in-rank)
+    pub named : (c : ℕ) → b ≤ c → c < e → getD ents c 0 < length vs
+    named c x y = in-ring (getD ents c 0) (entry c x y)
 
-    same : (a : ℕ) → In a (slice b e ents) → upTo rank k a ≡ mem (take k vs) a
+    pub ranked : (c : ℕ) → b ≤ c → c < e → getD ents c 0 < length rank
+    ranked c x y = omega (arith, in-ring (getD ents c 0) (entry c x y), A .ranked .room)
+
+    same : (a : ℕ) → In a (slice b e ents) → earlier-than rank (k + 1) a ≡ mem (take k vs) a
     same a q = sym (placed-by vs rank k (passes-names G vs (A .passes) .once) (A .ranked) a (in-ring a q))
 
     last-is : getD ents (e - 1) 0 ≡ lastOf 0 (slice b e ents)
@@ -99,7 +102,7 @@ module _ (at ents vs rank : List ℕ) (A : Accepted at ents vs rank) (k : ℕ) (
         sym (last-at 0 (slice b e ents) (omega (arith, long, some)) ∙ ap (λ (c : ℕ). getD (slice b e ents) c 0) q ∙ part-at ents b e (e - 1) (omega (arith, some)) (omega (arith, some)) in-ents)
 
     -- what the search finds
-    module _ (p m : ℕ) (ep : p ≡ opens (upTo rank k) (getD vs 0 0) (upTo rank k (getD ents (e - 1) 0)) (slice b e ents)) (em : m ≡ count (upTo rank k) (slice b e ents)) where
+    module _ (p m : ℕ) (ep : p ≡ opens (earlier-than rank (k + 1)) (getD vs 0 0) (earlier-than rank (k + 1) (getD ents (e - 1) 0)) (slice b e ents)) (em : m ≡ count (mem (earlier vs (k + 1))) (slice b e ents)) where
       found : (opens (mem (take k vs)) (post vs 1) (mem (take k vs) (lastOf 0 (slice b e ents))) (slice b e ents) ≡ s .p) × (count (mem (take k vs)) (slice b e ents) ≡ length (s .M) + 2)
       found =
           subst (λ (l : List ℕ). (opens (mem (take k vs)) (post vs 1) (mem (take k vs) (lastOf 0 l)) l ≡ s .p) × (count (mem (take k vs)) l ≡ length (s .M) + 2)) ring-is
@@ -107,12 +110,12 @@ module _ (at ents vs rank : List ℕ) (A : Accepted at ents vs rank) (k : ℕ) (
 
       p-is : p ≡ s .p
       p-is =
-          ep ∙ opens-same (upTo rank k) (mem (take k vs)) (getD vs 0 0) (upTo rank k (getD ents (e - 1) 0)) (slice b e ents) same
+          ep ∙ opens-same (earlier-than rank (k + 1)) (mem (take k vs)) (getD vs 0 0) (earlier-than rank (k + 1) (getD ents (e - 1) 0)) (slice b e ents) same
           ∙ ap (λ (w : Bool). opens (mem (take k vs)) (getD vs 0 0) w (slice b e ents)) (same (getD ents (e - 1) 0) (entry (e - 1) (omega (arith, some)) (omega (arith, some))) ∙ ap (mem (take k vs)) last-is)
           ∙ found .0
 
       m-is : m ≡ length (s .M) + 2
-      m-is = em ∙ count-same (upTo rank k) (mem (take k vs)) (slice b e ents) same ∙ found .1
+      m-is = let q : k + 1 - 1 ≡ k = omega arith in em ∙ ap (λ (j : ℕ). count (mem (take j vs)) (slice b e ents)) q ∙ found .1
 
       K : Kept (stage (held at ents) (take k vs))
       K = kept-at G vs (A .passes) k h (omega arith)

@@ -12,7 +12,7 @@ use borrow.Author.Tests.{eq-eqb, ne-eqb, not-true, not-false}
 use Rattle.placing.specs.declared.Standing.{Standing}
 use Rattle.placing.specs.declared.Standing.the-variants.{Waiting, OnContour, Covered}
 use Rattle.placing.specs.declared.Record.{Record}
-use Rattle.engine.specs.Found.{upTo}
+use Rattle.engine.specs.Found.{before}
 use Rattle.engine.specs.Sheet.{pairs, recordBy}
 
 module _ (xs ys : List ℕ) where
@@ -67,7 +67,7 @@ module _ (vs : List ℕ) (k : ℕ) (xs ys buffer₀ buffer : List ℕ) (i : ℕ)
       }
 
 -- ---- a post's record
-module _ (rank : List ℕ) (k : ℕ) (xs ys cover left right : List ℕ) (u : ℕ) (r : Bool) (er : r ≡ upTo rank k u) where
+module _ (rank : List ℕ) (k : ℕ) (xs ys cover left right : List ℕ) (u : ℕ) (r : Bool) (er : r ≡ before rank (k + 1) u) where
   pub record-waiting : not r ≡ true → record { x = 0; y = 0; standing = Waiting } ≡ recordBy rank k xs ys cover left right u
   record-waiting t = rw (← er, not-true r t) refl
 

@@ -3,20 +3,16 @@ use Prim.Native.Nat.{ℕ, _+_, _≤_, _<_}
 use mathlib.Core.Path.{_≡_}
 use mathlib.Core.Bool.{Bool, true, false, not, cond, _&&_}
 use mathlib.Core.List.{List, [], _∷_}
-use lib.Dec.{leb}
+use lib.Dec.{ltb}
 use lib.ListN.{length, getD}
-use Rattle.words.specs.Positions.{post}
 use Rattle.block.specs.Layout.{limit}
 use Rattle.rings.specs.Held.{held, Cuts}
+use Rattle.order.specs.Held.{Ranked}
 use Rattle.order.proofs.Sound.{Passes}
 
--- rank a is the position of post a, for all posts of the order
-abbrev pub Ranked : List ℕ → List ℕ → Type 0
-Ranked vs rank = (a : ℕ) → a < length vs → (1 ≤ getD rank a 0) × (getD rank a 0 ≤ length vs) × (post vs (getD rank a 0) ≡ a)
-
--- a stands in one of the first k positions
-abbrev pub upTo : List ℕ → ℕ → ℕ → Bool
-upTo rank k a = leb (getD rank a 0) k
+-- a stands in a position before k
+abbrev pub before : List ℕ → ℕ → ℕ → Bool
+before rank k a = ltb (getD rank a 0) k
 
 -- the first entry for which the test holds, after one for which it does not; z if there is none. w is the test of the entry before
 unfoldable pub opens : (ℕ → Bool) → ℕ → Bool → List ℕ → ℕ
@@ -31,4 +27,3 @@ pub record Accepted (at ents vs rank : List ℕ) : Type 0 where
   pub three : 3 ≤ length vs
   pub most : length vs ≤ limit
   pub ranked : Ranked vs rank
-  pub in-rank : length vs ≤ length rank

@@ -8,9 +8,8 @@ ghost use lib.ListN.{length, getD, set, take, drop};
 ghost use Rattle.block.specs.Layout.{limit};
 ghost use lib.Seq.{slice};
 ghost use mathlib.Core.Bool.{cond, not, _&&_};
-ghost use lib.Dec.{leb};
 ghost use Rattle.words.specs.Lists.{lastOf, count};
-ghost use Rattle.engine.specs.Found.{upTo, opens, Accepted};
+ghost use Rattle.engine.specs.Found.{before, opens, Accepted};
 ghost use Rattle.rings.specs.Held.{held};
 ghost use Rattle.placing.specs.Stages.{third, stage};
 ghost use Rattle.placing.specs.Records.{recordOf, entriesOf};
@@ -118,58 +117,28 @@ fn place_over(
     two(right, p, v, v, q);
 }
 
-// Post a stands in one of the first k positions: it is placed at stage k.
-fn is_placed(rank: &[u16], a: u16, k: usize) -> bool
-    requires { ⌜ a < length (now rank) ⌝ }
-    ensures { λ r. ⌜ r ≡ upTo (now (rank .entry)) k a ⌝ }
+fn begins(last: bool, here: bool) -> bool
+    ensures { λ r. ⌜ r ≡ (not last && here) ⌝ }
 {
-    let i = words::number(a);
-    words::number(rank[i]) <= k
-}
-
-fn one_if_placed(rank: &[u16], a: u16, k: usize) -> usize
-    requires { ⌜ a < length (now rank) ⌝ }
-    ensures { λ r. ⌜ (r ≡ cond (upTo (now (rank .entry)) k a) 1 0) × (r ≤ 1) ⌝ }
-{
-    if is_placed(rank, a, k) { 1 } else { 0 }
-}
-
-// How many of the entries from b to e are placed at stage k.
-fn placed_among(ents: &[u16], b: usize, e: usize, rank: &[u16], k: usize) -> usize
-    requires { ⌜ (b ≤ e) × (e ≤ length (now ents)) × ((j : ℕ) → b ≤ j → j < e → getD (now ents) j 0 < length (now rank)) ⌝ }
-    ensures { λ r. ⌜ r ≡ count (upTo (now (rank .entry)) k) (slice b e (now (ents .entry))) ⌝ }
-{
-    let mut c = 0;
-    let mut i = b;
-    while i < e {
-        c += one_if_placed(rank, ents[i], k);
-        i += 1;
-    }
-    c
-}
-
-fn begins(before: bool, here: bool) -> bool
-    ensures { λ r. ⌜ r ≡ (not before && here) ⌝ }
-{
-    if before {
+    if last {
         return false;
     }
     here
 }
 
-// Where a run begins among the entries from b to e, read around: the first placed entry after one that is not placed; v1 if there is none.
+// Where a run begins among the entries from b to e, read around: the first one before position k after one that is not; v1 if there is none.
 fn run_begins(ents: &[u16], b: usize, e: usize, rank: &[u16], k: usize, v1: u16) -> u16
     requires { ⌜ (b < e) × (e ≤ length (now ents)) × ((j : ℕ) → b ≤ j → j < e → getD (now ents) j 0 < length (now rank)) ⌝ }
-    ensures { λ r. ⌜ r ≡ opens (upTo (now (rank .entry)) k) v1 (upTo (now (rank .entry)) k (getD (now (ents .entry)) (e - 1) 0)) (slice b e (now (ents .entry))) ⌝ }
+    ensures { λ r. ⌜ r ≡ opens (before (now (rank .entry)) k) v1 (before (now (rank .entry)) k (getD (now (ents .entry)) (e - 1) 0)) (slice b e (now (ents .entry))) ⌝ }
 {
-    let mut before = is_placed(rank, ents[e - 1], k);
+    let mut last = order::is_before(rank, ents[e - 1], k);
     let mut i = b;
     while i < e {
-        let here = is_placed(rank, ents[i], k);
-        if begins(before, here) {
+        let here = order::is_before(rank, ents[i], k);
+        if begins(last, here) {
             return ents[i];
         }
-        before = here;
+        last = here;
         i += 1;
     }
     v1
@@ -195,8 +164,8 @@ pub fn place_next(
     let j = words::number(v);
     let b = words::number(at[j]);
     let e = words::number(at[j + 1]);
-    let p = run_begins(ents, b, e, rank, k, vs[0]);
-    let m = placed_among(ents, b, e, rank, k);
+    let p = run_begins(ents, b, e, rank, k + 1, vs[0]);
+    let m = order::count_before(ents, b, e, vs, rank, k + 1);
     place_over(v, p, m, ys, off, cover, left, right);
 }
 
@@ -301,7 +270,7 @@ fn settle(vs: &[u16], off: &[u16], cover: &[u16], xs: &mut [u16], k: usize)
 }
 
 // The columns of the posts placed at stage k.
-fn columns(vs: &[u16], off: &[u16], cover: &[u16], right: &[u16], xs: &mut [u16], k: usize)
+pub fn columns(vs: &[u16], off: &[u16], cover: &[u16], right: &[u16], xs: &mut [u16], k: usize)
     requires { ⌜ Readable (now vs) (now off) (now cover) (now right) (now xs) k ⌝ }
     ensures { λ r. ⌜ now (xs .exit) ≡ columnsOf (now (vs .entry)) (now (off .entry)) (now (cover .entry)) (now (right .entry)) (now (xs .entry)) k ⌝ }
 {
@@ -310,7 +279,7 @@ fn columns(vs: &[u16], off: &[u16], cover: &[u16], right: &[u16], xs: &mut [u16]
 }
 
 // The first 2k entries of the buffer become x then y of v1, then of v2, up to vk. Entries beyond stay as they were.
-fn write_sheet(vs: &[u16], k: usize, xs: &[u16], ys: &[u16], buffer: &mut [u16])
+pub fn write_sheet(vs: &[u16], k: usize, xs: &[u16], ys: &[u16], buffer: &mut [u16])
     requires { ⌜ (k ≤ length (now vs)) × (k ≤ limit) × (2 * k ≤ length (now buffer)) × ((i : ℕ) → i < k → (getD (now vs) i 0 < length (now xs)) × (getD (now vs) i 0 < length (now ys))) ⌝ }
     ensures { λ r. ⌜ now (buffer .exit) ≡ pairs (now (xs .entry)) (now (ys .entry)) (take k (now (vs .entry))) ++ drop (2 * k) (now (buffer .entry)) ⌝ }
 {
@@ -324,7 +293,7 @@ fn write_sheet(vs: &[u16], k: usize, xs: &[u16], ys: &[u16], buffer: &mut [u16])
 }
 
 // The record of post u at stage k.
-fn record_at(
+pub fn record_at(
     rank: &[u16],
     k: usize,
     xs: &[u16],
@@ -334,10 +303,10 @@ fn record_at(
     right: &[u16],
     u: u16,
 ) -> Record
-    requires { ⌜ (u < length (now rank)) × (u < length (now xs)) × (u < length (now ys)) × (u < length (now cover)) × (u < length (now left)) × (u < length (now right)) ⌝ }
+    requires { ⌜ (k ≤ limit) × (u < length (now rank)) × (u < length (now xs)) × (u < length (now ys)) × (u < length (now cover)) × (u < length (now left)) × (u < length (now right)) ⌝ }
     ensures { λ r. ⌜ r ≡ recordBy (now (rank .entry)) k (now (xs .entry)) (now (ys .entry)) (now (cover .entry)) (now (left .entry)) (now (right .entry)) u ⌝ }
 {
-    if !is_placed(rank, u, k) {
+    if !order::is_before(rank, u, k + 1) {
         return Record {
             x: 0,
             y: 0,

@@ -120,8 +120,7 @@ module _ (s : List ℕ) where
           all = L .places;
           three = L .headed .least;
           most = L .headed .most;
-          ranked = subst⁻¹ (λ (l : List ℕ). Rattle.engine.specs.Found.Ranked l rank) (L .orders) (R .ranked .name);
-          in-rank = subst⁻¹ (λ (l : List ℕ). length l ≤ length rank) (L .orders) (R .ranked .room);
+          ranked = subst⁻¹ (λ (l : List ℕ). Ranked l rank) (L .orders) (R .ranked);
         }
 
     pub stage-is : (k : ℕ) → stage (held (take (n + 1) at) (take (entries n) ents)) (take k (take n vs)) ≡ stageAt k s
