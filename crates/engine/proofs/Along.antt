@@ -9,7 +9,7 @@ use lib.ListN.{length, getD, set, length-set, length-append}
 use lib.Seq.{getD-set-same, getD-set-other}
 use Rattle.words.specs.Lists.{In, lastOf}
 use Rattle.words.proofs.Lists.{Head, Adj, Once, adj-tail, last-append}
-use Rattle.engine.specs.Arrays.{bias, path, walk, along, Below, covered, hung, Fits}
+use Rattle.arrays.specs.Arrays.{bias, path, walk, along, Below, covered, hung, Fits}
 
 pub below-all : (n : ℕ) (l : List ℕ) → ((a : ℕ) → In a l → a < n) → Below n l
 below-all n [] h = tt

@@ -30,7 +30,8 @@ use Rattle.order.proofs.Sound.{Passes, passes-names, passes-faces, passes-outer
 use Rattle.placing.specs.Stages.{Stage, stage}
 use Rattle.placing.proofs.Steps.{Step, step-at, contours, stage-placed}
 use Rattle.placing.proofs.Placed.{p-placed}
-use Rattle.engine.specs.Found.{before as earlier-than, opens}
+use Rattle.arrays.specs.Opens.{opens}
+use Rattle.arrays.specs.Opens.{before as earlier-than}
 use Rattle.order.specs.Held.{Ranked}
 
 -- ---- tests that agree on the entries find the same

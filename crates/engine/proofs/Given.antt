@@ -25,9 +25,10 @@ use Rattle.placing.specs.declared.Standing.{Standing}
 use Rattle.placing.specs.declared.Standing.the-variants.{Waiting, OnContour, Covered}
 use Rattle.placing.specs.declared.Record.{Record}
 use Rattle.placing.proofs.Steps.{contours, stage-placed}
-use Rattle.engine.specs.Found.{before, Accepted}
+use Rattle.arrays.specs.Opens.{before}
+use Rattle.engine.specs.Found.{Accepted}
 use Rattle.engine.specs.Shows.{Shows, Room, Holds, Drawn}
-use Rattle.engine.specs.Sheet.{pairs, pickStanding, pickRecord, recordBy}
+use Rattle.arrays.specs.Sheet.{pairs, pickStanding, pickRecord, recordBy}
 use Rattle.engine.proofs.Found.{placed-by}
 use Rattle.engine.proofs.Kept.{Kept, kept-at}
 use Rattle.engine.proofs.Read.{later}

@@ -1,15 +1,9 @@
-pub mod Signed
 pub mod Kept
 pub mod Stepped
-pub mod Paths
-pub mod Made
-pub mod Opens
 pub mod Found
 pub mod Along
 pub mod Shown
 pub mod Next
 pub mod Third
-pub mod Reading
 pub mod Read
-pub mod Writing
 pub mod Given

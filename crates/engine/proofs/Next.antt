@@ -20,8 +20,10 @@ use Rattle.rings.proofs.Says.{Faces, entry-below}
 use Rattle.order.proofs.Sound.{Passes, passes-names, passes-faces}
 use Rattle.placing.specs.Stages.{Stage, stage, place}
 use Rattle.placing.proofs.Steps.{Step, step-at, stage-next, stage-placed}
-use Rattle.engine.specs.Arrays.{Ready, Over}
-use Rattle.engine.specs.Found.{before as earlier-than, opens, Accepted}
+use Rattle.arrays.specs.Arrays.{Ready, Over}
+use Rattle.arrays.specs.Opens.{opens}
+use Rattle.arrays.specs.Opens.{before as earlier-than}
+use Rattle.engine.specs.Found.{Accepted}
 use Rattle.engine.specs.Shows.{Shows, Room, Holds}
 use Rattle.engine.proofs.Kept.{Kept, kept-at}
 use Rattle.engine.proofs.Found.{opens-same, placed-by, run-found}

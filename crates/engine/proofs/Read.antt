@@ -22,13 +22,13 @@ use Rattle.order.proofs.Sound.{Passes, passes-names}
 use Rattle.placing.specs.Stages.{Stage, stage}
 use Rattle.placing.proofs.Steps.{contours, stage-placed}
 use Rattle.plane.proofs.Sheet.{within}
-use Rattle.engine.specs.Arrays.{bias, along, Below}
+use Rattle.arrays.specs.Arrays.{bias, along, Below}
 use Rattle.engine.specs.Found.{Accepted}
 use Rattle.engine.specs.Shows.{Shows, Room, Holds, Drawn}
-use Rattle.engine.specs.Columns.{until, laid, columnOf, settled, ColumnFits, Settles, Rooms, Line, Readable, columnsOf}
+use Rattle.arrays.specs.Columns.{until, laid, columnOf, settled, ColumnFits, Settles, Rooms, Line, Readable, columnsOf}
 use Rattle.engine.proofs.Kept.{Kept, kept-at}
 use Rattle.engine.proofs.Along.{Apart, below-all, along-list}
-use Rattle.engine.proofs.Paths.{along-cons}
+use Rattle.arrays.proofs.Paths.{along-cons}
 
 -- ---- a list from a to its last, by right neighbours
 pub until-list : (right : List ℕ) (a z k : ℕ) (L : List ℕ) → Once (a ∷ L) → lastOf a L ≡ z → ((x y : ℕ) → Adj (a ∷ L) x y → getD right x 0 ≡ y) → length (a ∷ L) ≤ k

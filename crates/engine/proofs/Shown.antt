@@ -11,7 +11,7 @@ use Rattle.words.proofs.Lists.{Head, Adj, Once, once-split, once-drop, in-left,
 use Rattle.placing.specs.Stages.{Stage, place}
 use Rattle.placing.proofs.Steps.{Step, place-placed}
 use Rattle.placing.proofs.Placed.{p-placed, q-placed, p-old, q-old}
-use Rattle.engine.specs.Arrays.{bias, path, walk, along, Below, covered, hung, Fits, runEnd, farAt, innerAt, newOff, newHeight, Ready, Over}
+use Rattle.arrays.specs.Arrays.{bias, path, walk, along, Below, covered, hung, Fits, runEnd, farAt, innerAt, newOff, newHeight, Ready, Over}
 use Rattle.engine.specs.Shows.{Shows, Room}
 use Rattle.engine.proofs.Kept.{Kept, Moves, moves}
 use Rattle.engine.proofs.Stepped.{Changed, left-not, right-not, p-in, shows-next}

@@ -13,7 +13,7 @@ use Rattle.placing.specs.Stages.{Stage, place}
 use Rattle.placing.proofs.Steps.{Step, place-placed}
 use Rattle.placing.proofs.Placed.{p-placed, q-placed, p-old, q-old}
 use Rattle.plane.proofs.Lists.{sides}
-use Rattle.engine.specs.Arrays.{bias}
+use Rattle.arrays.specs.Arrays.{bias}
 use Rattle.engine.specs.Shows.{Shows}
 use Rattle.engine.proofs.Kept.{Kept, Moves, moves, old-placed, still-on, was-on, cover-in, cover-off, first-kept, first-on}
 

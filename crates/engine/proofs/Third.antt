@@ -13,7 +13,7 @@ use Rattle.rings.specs.Held.{held}
 use Rattle.order.proofs.Sound.{Passes, passes-names}
 use Rattle.placing.specs.Stages.{Stage, third}
 use Rattle.placing.proofs.Steps.{stage-third}
-use Rattle.engine.specs.Arrays.{bias}
+use Rattle.arrays.specs.Arrays.{bias}
 use Rattle.engine.specs.Found.{Accepted}
 use Rattle.engine.specs.Shows.{Shows, Room, Corners, Holds}
 use Rattle.engine.proofs.Kept.{apart}

@@ -15,7 +15,7 @@ use Rattle.words.specs.Numbers.{sumOf}
 use Rattle.words.specs.Lists.{In, Different, mem}
 use Rattle.words.specs.Positions.{post, earlier, later}
 use Rattle.words.proofs.Lists.{in-cases, all-there, once-length}
-use Rattle.words.proofs.Tests.{is-false, fails, mem-in, in-mem, place-in, in-place, different-once, once-different}
+use Rattle.words.proofs.Tests.{is-false, fails, neither, mem-in, in-mem, place-in, in-place, different-once, once-different}
 use Rattle.words.proofs.Positions.{take-in, earlier-in, post-new}
 use Rattle.block.specs.Block.{badEntry, badDegree}
 use Rattle.rings.specs.Rings.{ring, around, ringRule, triangleRule, outerRule}
@@ -42,10 +42,6 @@ pub record Passes (G : List (List ℕ)) (vs : List ℕ) : Type 0 where
   pub later : (k : ℕ) → 3 ≤ k → k < length G → oneLater G (later vs k) (post vs k) ≡ true
 
 -- ---- step 7: the order's entries are below n, and differ
-or-false : (x y : Bool) → x || y ≡ false → (x ≡ false) × (y ≡ false)
-or-false true y e = absurd (fails true e tt)
-or-false false y e = (refl, e)
-
 false-or : (x y : Bool) → x ≡ false → y ≡ false → x || y ≡ false
 false-or x y e f = rw (e, f)
 
@@ -53,7 +49,7 @@ module _ (n : ℕ) (vs : List ℕ) where
   pub position-says : (k : ℕ) → badEntry n vs k ≡ false → (post vs k < n) × ¬ (In (post vs k) (earlier vs k))
   unfolding badEntry
   position-says k e =
-      let t = or-false (leb n (post vs k)) (mem (earlier vs k) (post vs k)) e in
+      let t = neither (leb n (post vs k)) (mem (earlier vs k) (post vs k)) e in
       (leb-false n (post vs k) (t .0), λ h. fails (mem (earlier vs k) (post vs k)) (t .1) (in-mem (earlier vs k) (post vs k) h))
 
   pub says-position : (k : ℕ) → post vs k < n → ¬ (In (post vs k) (earlier vs k)) → badEntry n vs k ≡ false

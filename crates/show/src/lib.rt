@@ -1,4 +1,6 @@
 // Sheets, replies and records as text on standard output. What is written no contract can say; it is compared with what it must be.
+ghost use mathlib.Core.Path.{_≡_};
+ghost use lib.ListN.{length};
 use libc::STDOUT_FILENO;
 use placing::Record;
 use placing::Standing;
@@ -55,9 +57,15 @@ fn lines(s: &[u8], k: usize, entries: &[u16]) {
     }
 }
 
+fn blank() -> [u16; 2000]
+    ensures { λ r. ⌜ 2000 ≡ length r ⌝ }
+{
+    [0u16; 2000]
+}
+
 // Stage k of a block of n posts: the word, n, the stage; then a line for each position.
 fn stage(s: &[u8], n: u16, k: usize) {
-    let mut entries = [0u16; 2000];
+    let mut entries = blank();
     match unit::sheet(s, k, &mut entries) {
         Answer::Refused(r) => refused(r),
         Answer::Accepted(count) => {

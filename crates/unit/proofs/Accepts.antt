@@ -13,6 +13,7 @@ use Rattle.words.specs.Numbers.{wordsAt, sumOf}
 use Rattle.words.specs.Positions.{post, earlier, later}
 use Rattle.words.proofs.First.{some-none, some-false}
 use Rattle.words.proofs.Numbers.{words-length}
+use Rattle.words.proofs.Tests.{neither}
 use Rattle.block.specs.Layout.{entries, listsAt}
 use Rattle.block.specs.Block.{posts, order, degrees, listsFrom, lists, badEntry, badDegree, Framed}
 use Rattle.rings.specs.Rings.{ringRule, triangleRule, outerRule}
@@ -76,10 +77,6 @@ all-positions s zero k f = tt
 all-positions s (suc m) k f =
     none-both (positionRows k) (flatMap positionRows (numbers (suc k) m)) s (f k (omega arith) (omega arith)) (all-positions s m (suc k) (λ j a b. f j (omega arith) (omega arith)))
 
-or-false : (x y : Bool) → x || y ≡ false → (x ≡ false) × (y ≡ false)
-or-false true y e = absurd (true≢false e)
-or-false false y e = (refl, e)
-
 and-false : (x y : Bool) → x && y ≡ false → x ≡ true → y ≡ false
 and-false true y e t = e
 and-false false y e t = absurd (true≢false (sym t))
@@ -104,7 +101,7 @@ module _ (s : List ℕ) where
       let r = none-left blockRows (flatMap positionRows (numbers 3 (posts s - 2))) s h .1 .1 .1 .1 .1 .1 in
       let q = at-positions s (posts s - 2) 3 in
       let p = none-right blockRows (flatMap positionRows (numbers 3 (posts s - 2))) s h in
-      let d = or-false (some 0 (posts s) (badDegree (posts s) (degrees s))) _ (r .1 .0) in
+      let d = neither (some 0 (posts s) (badDegree (posts s) (degrees s))) _ (r .1 .0) in
       record {
         all = order-length s ∙ sym n;
         entries = λ k a b. rw n (some-none (badEntry (posts s) (order s)) 1 (posts s) (r .0) k a (omega (arith, n)));

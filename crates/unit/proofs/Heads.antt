@@ -9,6 +9,7 @@ use lib.ListN.{length, getD, take}
 use lib.Seq.{getD-take}
 use borrow.Author.Tests.{lt-ltb, le-ltb, eq-eqb, ne-eqb, ltb-false, eqb-true, not-false}
 use Rattle.words.specs.Numbers.{wordAt}
+use Rattle.words.proofs.Tests.{neither}
 use Rattle.block.specs.Layout.{limit, size}
 use Rattle.block.specs.Block.{mark, version, posts, statedSum, earlierSum, marked, Framed}
 use Rattle.unit.specs.Lamp.{Row, blockRows}
@@ -16,10 +17,6 @@ use Rattle.unit.specs.Replies.{Reply, accepted, refused, given}
 use Rattle.unit.specs.Demands.{NoneApplies}
 use Rattle.unit.specs.Held.{headRows, Headed}
 use Rattle.unit.proofs.Given.{given-end, given-skip, given-stop, given-none, given-says}
-
-or-false : (x y : Bool) → x || y ≡ false → (x ≡ false) × (y ≡ false)
-or-false true y e = absurd (true≢false e)
-or-false false y e = (refl, e)
 
 both-true : (x y : Bool) → x && y ≡ true → (x ≡ true) × (y ≡ true)
 both-true true y e = (refl, e)
@@ -104,7 +101,7 @@ module _ (s : List ℕ) where
   unfolding blockRows
   framed h =
       let long = ltb-false (length s) 7 (h .0) in
-      let p = or-false (ltb (posts s) 3) (ltb limit (posts s)) (h .1 .1 .1 .0) in
+      let p = neither (ltb (posts s) 3) (ltb limit (posts s)) (h .1 .1 .1 .0) in
       record {
         mark-right = mark-is s long (not-false (marked s) (h .1 .0));
         version-right = eqb-true (version s) 1 (not-false (eqb (version s) 1) (h .1 .1 .0));

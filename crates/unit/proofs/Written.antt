@@ -15,6 +15,7 @@ use Rattle.words.specs.Lists.{In}
 use Rattle.words.specs.Positions.{post}
 use Rattle.words.proofs.First.{first-is}
 use Rattle.words.proofs.Positions.{in-take, take-in, post-suc}
+use Rattle.words.proofs.Tests.{neither}
 use Rattle.block.specs.Block.{posts, order, lists}
 use Rattle.rings.specs.Plane.{Wire}
 use Rattle.order.proofs.Sound.{Passes}
@@ -88,10 +89,6 @@ module _ (p q : Places) (Post : ℕ → Type 0) (same-x : (u : ℕ) → Post u �
       end-post z (inl q) = rw q (ends a b w .0)
       end-post z (inr q) = rw q (ends a b w .1)
 
-or-false : (x y : Bool) → x || y ≡ false → (x ≡ false) × (y ≡ false)
-or-false true y e = absurd (true≢false e)
-or-false false y e = (refl, e)
-
 module _ (s : List ℕ) (k : ℕ) (b : List ℕ) (a : Accepted (sheetReply s k b)) where
   none : NoneApplies (checkRows s ++ stageRow k ∷ roomRow k (length b) ∷ []) s
   unfolding sheetReply sheetRows
@@ -101,7 +98,7 @@ module _ (s : List ℕ) (k : ℕ) (b : List ℕ) (a : Accepted (sheetReply s k b
   sheet-passes = record { passes = none-passes s (none-left (checkRows s) (stageRow k ∷ roomRow k (length b) ∷ []) s none); all = sym (lists-count s) }
 
   inside : (ltb k 3 ≡ false) × (ltb (posts s) k ≡ false)
-  inside = or-false (ltb k 3) (ltb (posts s) k) (none-right (checkRows s) (stageRow k ∷ roomRow k (length b) ∷ []) s none .0)
+  inside = neither (ltb k 3) (ltb (posts s) k) (none-right (checkRows s) (stageRow k ∷ roomRow k (length b) ∷ []) s none .0)
 
   pub sheet-least : 3 ≤ k
   sheet-least = ltb-false k 3 (inside .0)

@@ -36,6 +36,10 @@ pub join : (x y : Bool) → T x → T y → T (x && y)
 join true y s t = t
 join false y s t = absurd s
 
+pub neither : (x y : Bool) → x || y ≡ false → (x ≡ false) × (y ≡ false)
+neither true y e = absurd (fails true e tt)
+neither false y e = (refl, e)
+
 pub either : {C : Type 0} (x y : Bool) → (T x → C) → (T y → C) → T (x || y) → C
 either true y f g t = f tt
 either false y f g t = g t

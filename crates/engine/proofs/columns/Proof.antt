@@ -3,8 +3,8 @@ use Rattle.engine.proofs.columns.Statement.{statement}
 use Rattle.engine.proofs.columns.Tie as tie
 use Rattle.engine.proofs.columns.Reads as reads
 use Rattle.engine.proofs.columns.Lts as lts
-use Rattle.engine.proofs.settle.Reads as settle-reads
-use Rattle.engine.proofs.spread.Reads as spread-reads
+use Rattle.arrays.proofs.settle.Reads as settle-reads
+use Rattle.arrays.proofs.spread.Reads as spread-reads
 use mathlib.Core.Path.{refl, ap, _∙_}
 use Rattle.engine.proofs.Read.{laid-ready}
 

@@ -4,7 +4,7 @@ use Rattle.engine.proofs.sheet_at.Tie as tie
 use Rattle.engine.proofs.sheet_at.Reads as reads
 use Rattle.engine.proofs.sheet_at.Lts as lts
 use Rattle.engine.proofs.draw.Reads as draw-reads
-use Rattle.engine.proofs.write_sheet.Reads as write-sheet-reads
+use Rattle.arrays.proofs.write_sheet.Reads as write-sheet-reads
 use native.Mathlib.Omega.{arith}
 use Rattle.engine.proofs.Given.{names-fit, sheet-is}
 

@@ -3,7 +3,7 @@ use Rattle.engine.proofs.start.Statement.{statement}
 use Rattle.engine.proofs.start.Tie as tie
 use Rattle.engine.proofs.start.Reads as reads
 use Rattle.engine.proofs.start.Lts as lts
-use Rattle.engine.proofs.three.Reads as three-reads
+use Rattle.arrays.proofs.three.Reads as three-reads
 use Rattle.engine.proofs.Third.{start-shows}
 
 -- src/lib.rt:210:5

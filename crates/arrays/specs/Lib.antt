@@ -1,0 +1,4 @@
+pub mod Arrays
+pub mod Opens
+pub mod Columns
+pub mod Sheet

@@ -1,0 +1,246 @@
+// The engine's arrays, by name: what its loops do to them. Nothing here knows what a stage is.
+use placing::Record;
+use placing::Standing;
+ghost use mathlib.Core.Path.{_≡_};
+ghost use mathlib.Core.List.{_++_};
+ghost use Prim.Native.Nat.{ℕ, _+_, _*_, _-_, _/_, _≤_, _<_};
+ghost use lib.ListN.{length, getD, set, take, drop};
+ghost use Rattle.block.specs.Layout.{limit};
+ghost use lib.Seq.{slice};
+ghost use mathlib.Core.Bool.{cond, not, _&&_};
+ghost use Rattle.arrays.specs.Opens.{before, opens};
+ghost use Rattle.arrays.specs.Columns.{until, laid, columnOf, settled, ColumnFits, Settles, Rooms, Line};
+ghost use Rattle.arrays.specs.Sheet.{pairs, recordBy};
+ghost use Rattle.arrays.specs.Arrays.{bias, path, walk, along, Below, covered, hung, Fits, dropOf, riseOf, Ready, Over};
+
+// The new post's offset from w_p, with w_q `far` from it: a signed difference of heights, and half of an even sum.
+fn half_drop(far: u16, yp: u16, yq: u16) -> u16
+    requires { ⌜ (yp ≤ far + yq) × (far + yq ≤ 65535) ⌝ }
+    ensures { λ r. ⌜ r ≡ dropOf far yp yq ⌝ }
+{
+    let d = yq as i32 - yp as i32;
+    ((far as i32 + d) / 2) as u16
+}
+
+// Its height.
+fn half_rise(far: u16, yp: u16, yq: u16) -> u16
+    requires { ⌜ far + yq + yp ≤ 65535 ⌝ }
+    ensures { λ r. ⌜ r ≡ riseOf far yp yq ⌝ }
+{
+    ((far as i32 + yq as i32 + yp as i32) / 2) as u16
+}
+
+// Two stores, the second last.
+fn two(s: &mut [u16], a: u16, x: u16, b: u16, y: u16)
+    requires { ⌜ (a < length (now s)) × (b < length (now s)) ⌝ }
+    ensures { λ r. ⌜ now (s .exit) ≡ set (set (now (s .entry)) a x) b y ⌝ }
+{
+    let i = words::number(a);
+    let j = words::number(b);
+    s[i] = x;
+    s[j] = y;
+}
+
+// The post m places right of p on the contour, and the sum of the offsets on the way.
+pub struct Span {
+    pub end: u16,
+    pub sum: u16,
+}
+
+fn reach_right(right: &[u16], off: &[u16], p: u16, m: usize) -> Span
+    requires { ⌜ Below (length (now right)) (path (now right) p m) × Below (length (now off)) (path (now right) (getD (now right) p 0) m) × (along (now off) (path (now right) (getD (now right) p 0) m) ≤ 65535) ⌝ }
+    ensures { λ r. ⌜ (r .end ≡ walk (now (right .entry)) p m) × (r .sum ≡ along (now (off .entry)) (path (now (right .entry)) (getD (now (right .entry)) p 0) m)) ⌝ }
+{
+    let mut a = p;
+    let mut s: u16 = 0;
+    let mut i = 0;
+    while i < m {
+        let j = words::number(a);
+        a = right[j];
+        let b = words::number(a);
+        s += off[b];
+        i += 1;
+    }
+    Span { end: a, sum: s }
+}
+
+// The m posts from `first` on are covered by v, whose offset is d.
+fn hang(right: &[u16], off: &mut [u16], cover: &mut [u16], first: u16, m: usize, d: u16, v: u16)
+    requires { ⌜ Below (length (now right)) (path (now right) first m) × Below (length (now off)) (path (now right) first m) × Below (length (now cover)) (path (now right) first m) × Fits (now off) (path (now right) first m) 1 d × (d ≤ bias) ⌝ }
+    ensures { λ r. ⌜ (now (off .exit) ≡ hung (now (off .entry)) (path (now (right .entry)) first m) 1 d) × (now (cover .exit) ≡ covered (now (cover .entry)) (path (now (right .entry)) first m) v) ⌝ }
+{
+    let mut a = first;
+    let mut s: u16 = 1;
+    let mut i = 0;
+    while i < m {
+        let j = words::number(a);
+        s += off[j];
+        off[j] = s + 4096 - d;
+        cover[j] = v;
+        a = right[j];
+        i += 1;
+    }
+}
+
+// v is put over the run of m posts that begins with p.
+pub fn place_over(
+    v: u16,
+    p: u16,
+    m: usize,
+    ys: &mut [u16],
+    off: &mut [u16],
+    cover: &mut [u16],
+    left: &mut [u16],
+    right: &mut [u16],
+)
+    requires { ⌜ Ready v p m (now ys) (now off) (now cover) (now left) (now right) ⌝ }
+    ensures { λ r. ⌜ Over v p m (now (ys .entry)) (now (off .entry)) (now (cover .entry)) (now (left .entry)) (now (right .entry)) (now (ys .exit)) (now (off .exit)) (now (cover .exit)) (now (left .exit)) (now (right .exit)) ⌝ }
+{
+    let e = reach_right(right, off, p, m - 1);
+    let q = e.end;
+    let far = e.sum + 2;
+    let i = words::number(p);
+    let j = words::number(q);
+    let k = words::number(v);
+    let d = half_drop(far, ys[i], ys[j]);
+    let h = half_rise(far, ys[i], ys[j]);
+    hang(right, off, cover, right[i], m - 2, d, v);
+    ys[k] = h;
+    cover[k] = v;
+    two(off, v, d, q, far - d);
+    two(left, v, p, q, v);
+    two(right, p, v, v, q);
+}
+
+fn begins(last: bool, here: bool) -> bool
+    ensures { λ r. ⌜ r ≡ (not last && here) ⌝ }
+{
+    if last {
+        return false;
+    }
+    here
+}
+
+// Where a run begins among the entries from b to e, read around: the first one before position k after one that is not; v1 if there is none.
+pub fn run_begins(ents: &[u16], b: usize, e: usize, rank: &[u16], k: usize, v1: u16) -> u16
+    requires { ⌜ (b < e) × (e ≤ length (now ents)) × ((j : ℕ) → b ≤ j → j < e → getD (now ents) j 0 < length (now rank)) ⌝ }
+    ensures { λ r. ⌜ r ≡ opens (before (now (rank .entry)) k) v1 (before (now (rank .entry)) k (getD (now (ents .entry)) (e - 1) 0)) (slice b e (now (ents .entry))) ⌝ }
+{
+    let mut last = order::is_before(rank, ents[e - 1], k);
+    let mut i = b;
+    while i < e {
+        let here = order::is_before(rank, ents[i], k);
+        if begins(last, here) {
+            return ents[i];
+        }
+        last = here;
+        i += 1;
+    }
+    v1
+}
+
+// Three stores, the third last.
+pub fn three(s: &mut [u16], a: u16, x: u16, b: u16, y: u16, c: u16, z: u16)
+    requires { ⌜ (a < length (now s)) × (b < length (now s)) × (c < length (now s)) ⌝ }
+    ensures { λ r. ⌜ now (s .exit) ≡ set (set (set (now (s .entry)) a x) b y) c z ⌝ }
+{
+    two(s, a, x, b, y);
+    let i = words::number(c);
+    s[i] = z;
+}
+
+// The columns of the contour, from v1 to v2, at most k posts.
+pub fn spread(right: &[u16], off: &[u16], xs: &mut [u16], v1: u16, v2: u16, k: usize)
+    requires { ⌜ Line (now right) (now off) (now xs) v1 v2 k ⌝ }
+    ensures { λ r. ⌜ now (xs .exit) ≡ laid (now (xs .entry)) (now (off .entry)) 0 (until (now (right .entry)) v1 v2 k) ⌝ }
+{
+    let mut a = v1;
+    let mut s: u16 = 0;
+    let mut i = 0;
+    while i < k {
+        let j = words::number(a);
+        s += off[j];
+        xs[j] = s;
+        if a == v2 {
+            return;
+        }
+        a = right[j];
+        i += 1;
+    }
+}
+
+// The column of post u, which c covers, from c's.
+fn column(xs: &[u16], off: &[u16], u: usize, c: usize) -> u16
+    requires { ⌜ (u < length (now xs)) × (u < length (now off)) × (c < length (now xs)) × ColumnFits (now xs) (now off) u c ⌝ }
+    ensures { λ r. ⌜ r ≡ columnOf (now (xs .entry)) (now (off .entry)) u c ⌝ }
+{
+    if c == u {
+        return xs[u];
+    }
+    xs[c] + off[u] - 4096
+}
+
+// The columns of covered posts, from position k down: a cover stands in a later position, so its column is known.
+pub fn settle(vs: &[u16], off: &[u16], cover: &[u16], xs: &mut [u16], k: usize)
+    requires { ⌜ Rooms (now vs) (now off) (now cover) (now xs) k × Settles (now xs) (now off) (now cover) (now vs) k ⌝ }
+    ensures { λ r. ⌜ now (xs .exit) ≡ settled (now (xs .entry)) (now (off .entry)) (now (cover .entry)) (now (vs .entry)) k ⌝ }
+{
+    let mut i = k;
+    while 0 < i {
+        i -= 1;
+        let u = words::number(vs[i]);
+        let c = words::number(cover[u]);
+        xs[u] = column(xs, off, u, c);
+    }
+}
+
+// The first 2k entries of the buffer become x then y of v1, then of v2, up to vk. Entries beyond stay as they were.
+pub fn write_sheet(vs: &[u16], k: usize, xs: &[u16], ys: &[u16], buffer: &mut [u16])
+    requires { ⌜ (k ≤ length (now vs)) × (k ≤ limit) × (2 * k ≤ length (now buffer)) × ((i : ℕ) → i < k → (getD (now vs) i 0 < length (now xs)) × (getD (now vs) i 0 < length (now ys))) ⌝ }
+    ensures { λ r. ⌜ now (buffer .exit) ≡ pairs (now (xs .entry)) (now (ys .entry)) (take k (now (vs .entry))) ++ drop (2 * k) (now (buffer .entry)) ⌝ }
+{
+    let mut i = 0;
+    while i < k {
+        let u = words::number(vs[i]);
+        buffer[2 * i] = xs[u];
+        buffer[2 * i + 1] = ys[u];
+        i += 1;
+    }
+}
+
+// The record of post u at stage k.
+pub fn record_at(
+    rank: &[u16],
+    k: usize,
+    xs: &[u16],
+    ys: &[u16],
+    cover: &[u16],
+    left: &[u16],
+    right: &[u16],
+    u: u16,
+) -> Record
+    requires { ⌜ (k ≤ limit) × (u < length (now rank)) × (u < length (now xs)) × (u < length (now ys)) × (u < length (now cover)) × (u < length (now left)) × (u < length (now right)) ⌝ }
+    ensures { λ r. ⌜ r ≡ recordBy (now (rank .entry)) k (now (xs .entry)) (now (ys .entry)) (now (cover .entry)) (now (left .entry)) (now (right .entry)) u ⌝ }
+{
+    if !order::is_before(rank, u, k + 1) {
+        return Record {
+            x: 0,
+            y: 0,
+            standing: Standing::Waiting,
+        };
+    }
+    let i = words::number(u);
+    let c = cover[i];
+    if c == u {
+        return Record {
+            x: xs[i],
+            y: ys[i],
+            standing: Standing::OnContour(left[i], right[i]),
+        };
+    }
+    Record {
+        x: xs[i],
+        y: ys[i],
+        standing: Standing::Covered(c),
+    }
+}
