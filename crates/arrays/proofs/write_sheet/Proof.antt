@@ -37,7 +37,7 @@ mul-buffer c = search needs
 
 -- src/lib.rt:318:25
 shared-slice-read-buffer : tie.Need-shared-slice-read-buffer Inv-loop μ-loop
-shared-slice-read-buffer c = rw (c .before .number .ensures .0) (c .before .before .before .before .before .before .before .before .before .pre .3 (c .before .before .before .before .loop .i) (search needs) .0)
+shared-slice-read-buffer c = let f = c .before .before .before .before .before .before .before .before .before .pre .3 (c .before .before .before .before .loop .i) (search needs) in rw (c .before .number .ensures .0) (omega (arith, f .0, f .1))
 
 -- src/lib.rt:318:16
 mul-buffer-2 : tie.Need-mul-buffer-2 Inv-loop μ-loop
@@ -57,7 +57,7 @@ mul-buffer-4 c = search needs
 
 -- src/lib.rt:319:29
 shared-slice-read-buffer-2 : tie.Need-shared-slice-read-buffer-2 Inv-loop μ-loop
-shared-slice-read-buffer-2 c = rw (c .before .before .number .ensures .0) (c .before .before .before .before .before .before .before .before .before .before .pre .3 (c .before .before .before .before .before .loop .i) (search needs) .1)
+shared-slice-read-buffer-2 c = let f = c .before .before .before .before .before .before .before .before .before .before .pre .3 (c .before .before .before .before .before .loop .i) (search needs) in rw (c .before .before .number .ensures .0) (omega (arith, f .0, f .1))
 
 -- src/lib.rt:319:16
 mul-buffer-5 : tie.Need-mul-buffer-5 Inv-loop μ-loop

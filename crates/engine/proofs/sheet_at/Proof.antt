@@ -6,6 +6,7 @@ use Rattle.engine.proofs.sheet_at.Lts as lts
 use Rattle.engine.proofs.draw.Reads as draw-reads
 use Rattle.arrays.proofs.write_sheet.Reads as write-sheet-reads
 use native.Mathlib.Omega.{arith}
+use Prim.Native.Nat.{ℕ}
 use Rattle.engine.proofs.Given.{names-fit, sheet-is}
 
 -- src/lib.rt:377:5
@@ -14,7 +15,13 @@ draw-requires c κs = search needs
 
 -- src/lib.rt:378:5
 write-sheet-requires : tie.Need-write-sheet-requires
-write-sheet-requires c κs = (c .before .before .before .before .before .before .before .before .before .before .before .before .before .before .before .before .before .before .before .before .before .before .before .before .before .before .before .before .before .before .before .before .before .pre .2, omega (arith, c .before .before .before .before .before .before .before .before .before .before .before .before .before .before .before .before .before .before .before .before .before .before .before .before .before .before .before .before .before .before .before .before .before .pre .2, c .before .before .before .before .before .before .before .before .before .before .before .before .before .before .before .before .before .before .before .before .before .before .before .before .before .before .before .before .before .before .before .before .before .pre .0 .most), c .before .before .before .before .before .before .before .before .before .before .before .before .before .before .before .before .before .before .before .before .before .before .before .before .before .before .before .before .before .before .before .before .before .pre .5, names-fit _ _ _ _ (c .before .before .before .before .before .before .before .before .before .before .before .before .before .before .before .before .before .before .before .before .before .before .before .before .before .before .before .before .before .before .before .before .before .pre .0) _ (c .before .before .before .before .before .before .before .before .before .before .before .before .before .before .before .before .before .before .before .before .before .before .before .before .before .before .before .before .before .before .before .before .before .pre .1) (c .before .before .before .before .before .before .before .before .before .before .before .before .before .before .before .before .before .before .before .before .before .before .before .before .before .before .before .before .before .before .before .before .before .pre .2) _ _ _ _ _ _ (c .before .before .before .before .before .before .before .before .before .before .before .before .before .before .before .draw .ensures))
+write-sheet-requires c κs =
+    let b = c .before .before .before .before .before .before .before .before .before .before .before .before .before .before .before .before .before .before .before .before .before .before .before .before .before .before .before .before .before .before .before .before .before .pre in (
+      omega (arith, b .2),
+      omega (arith, b .2, b .0 .most),
+      omega (arith, b .5),
+      λ (j : ℕ) l. names-fit _ _ _ _ (b .0) _ (b .1) (b .2) _ _ _ _ _ _ (c .before .before .before .before .before .before .before .before .before .before .before .before .before .before .before .draw .ensures) j (omega (arith, l)),
+    )
 
 -- src/lib.rt:373:1
 same-length : tie.Need-same-length

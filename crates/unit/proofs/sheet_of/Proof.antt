@@ -65,7 +65,7 @@ slice-aggregate-draw-sheet-3 c = sym (length-take-le _ _ (omega (arith, c .befor
 
 -- src/lib.rt:351:5
 draw-sheet-requires : tie.Need-draw-sheet-requires
-draw-sheet-requires c κs = (subst⁻¹ (λ (m : ℕ). Accepted (take ((c .before .before .before .before .before .before .before .before .before .before .before .before .before .before .args .n) + 1) (c .before .before .before .before .before .before .before .before .before .before .before .before .before .before .args .at .now)) (take m (c .before .before .before .before .before .before .before .before .before .before .before .before .before .before .args .ents .now)) (take (c .before .before .before .before .before .before .before .before .before .before .before .before .before .before .args .n) (c .before .before .before .before .before .before .before .before .before .before .before .before .before .before .args .vs .now)) (c .before .before .before .before .before .before .before .before .before .before .before .before .before .before .args .rank .now)) (c .before .before .before .before .entries .ensures) (to-engine (c .before .before .before .before .before .before .before .before .before .before .before .before .before .before .args .s .now) (c .before .before .before .before .before .before .before .before .before .before .before .before .before .before .args .n) (c .before .before .before .before .before .before .before .before .before .before .before .before .before .before .pre .0) (c .before .before .before .before .before .before .before .before .before .before .before .before .before .before .args .vs .now) (c .before .before .before .before .before .before .before .before .before .before .before .before .before .before .args .at .now) (c .before .before .before .before .before .before .before .before .before .before .before .before .before .before .args .ents .now) (c .before .before .before .before .before .before .before .before .before .before .before .before .before .before .args .rank .now) (c .before .before .before .before .before .before .before .before .before .before .before .before .before .before .pre .1) (omega (arith, c .before .before .before .before .before .before .before .before .before .before .before .before .before .before .pre .2 .places))), c .before .before .before .before .before .before .before .if1 .left, omega (arith, length-is (c .before .before .before .before .before .before .before .before .before .before .before .before .before .before .args .s .now) (c .before .before .before .before .before .before .before .before .before .before .before .before .before .before .args .n) (c .before .before .before .before .before .before .before .before .before .before .before .before .before .before .pre .0) (c .before .before .before .before .before .before .before .before .before .before .before .before .before .before .args .vs .now) (c .before .before .before .before .before .before .before .before .before .before .before .before .before .before .args .at .now) (c .before .before .before .before .before .before .before .before .before .before .before .before .before .before .args .ents .now) (c .before .before .before .before .before .before .before .before .before .before .before .before .before .before .args .rank .now) (c .before .before .before .before .before .before .before .before .before .before .before .before .before .before .pre .1) (omega (arith, c .before .before .before .before .before .before .before .before .before .before .before .before .before .before .pre .2 .places))), c .before .before .before .before .before .if3 .left)
+draw-sheet-requires c κs = (subst⁻¹ (λ (m : ℕ). Accepted (take ((c .before .before .before .before .before .before .before .before .before .before .before .before .before .before .args .n) + 1) (c .before .before .before .before .before .before .before .before .before .before .before .before .before .before .args .at .now)) (take m (c .before .before .before .before .before .before .before .before .before .before .before .before .before .before .args .ents .now)) (take (c .before .before .before .before .before .before .before .before .before .before .before .before .before .before .args .n) (c .before .before .before .before .before .before .before .before .before .before .before .before .before .before .args .vs .now)) (c .before .before .before .before .before .before .before .before .before .before .before .before .before .before .args .rank .now)) (c .before .before .before .before .entries .ensures) (to-engine (c .before .before .before .before .before .before .before .before .before .before .before .before .before .before .args .s .now) (c .before .before .before .before .before .before .before .before .before .before .before .before .before .before .args .n) (c .before .before .before .before .before .before .before .before .before .before .before .before .before .before .pre .0) (c .before .before .before .before .before .before .before .before .before .before .before .before .before .before .args .vs .now) (c .before .before .before .before .before .before .before .before .before .before .before .before .before .before .args .at .now) (c .before .before .before .before .before .before .before .before .before .before .before .before .before .before .args .ents .now) (c .before .before .before .before .before .before .before .before .before .before .before .before .before .before .args .rank .now) (c .before .before .before .before .before .before .before .before .before .before .before .before .before .before .pre .1) (omega (arith, c .before .before .before .before .before .before .before .before .before .before .before .before .before .before .pre .2 .places))), omega (arith, c .before .before .before .before .before .before .before .if1 .left), omega (arith, c .before .before .before .before .before .before .before .if1 .left, c .before .before .before .before .before .before .if2 .left, length-is (c .before .before .before .before .before .before .before .before .before .before .before .before .before .before .args .s .now) (c .before .before .before .before .before .before .before .before .before .before .before .before .before .before .args .n) (c .before .before .before .before .before .before .before .before .before .before .before .before .before .before .pre .0) (c .before .before .before .before .before .before .before .before .before .before .before .before .before .before .args .vs .now) (c .before .before .before .before .before .before .before .before .before .before .before .before .before .before .args .at .now) (c .before .before .before .before .before .before .before .before .before .before .before .before .before .before .args .ents .now) (c .before .before .before .before .before .before .before .before .before .before .before .before .before .before .args .rank .now) (c .before .before .before .before .before .before .before .before .before .before .before .before .before .before .pre .1) (omega (arith, c .before .before .before .before .before .before .before .before .before .before .before .before .before .before .pre .2 .places))), omega (arith, c .before .before .before .before .before .before .before .if1 .left, c .before .before .before .before .before .if3 .left))
 
 -- src/lib.rt:352:23
 mul-t15 : tie.Need-mul-t15
