@@ -7,45 +7,37 @@ use mathlib.Core.Path.{refl}
 use native.Mathlib.Omega.{arith}
 use borrow.Author.Tests.{eq-eqb, ne-eqb}
 
--- src/lib.rt:277:16
 mul-result : tie.Need-mul-result
 mul-result c = search needs
 
--- src/lib.rt:277:16
 shared-slice-read-result : tie.Need-shared-slice-read-result
 shared-slice-read-result c = search needs
 
--- src/lib.rt:277:9
 returns : tie.Need-returns
 returns c = rw (eq-eqb (c .before .before .args .c) (c .before .before .args .u) (c .before .if1 .taken)) refl
 
--- src/lib.rt:279:5
 mul-result-2 : tie.Need-mul-result-2
 mul-result-2 c = search needs
 
--- src/lib.rt:279:5
 shared-slice-read-result-2 : tie.Need-shared-slice-read-result-2
 shared-slice-read-result-2 c = search needs
 
--- src/lib.rt:279:13
 mul-result-3 : tie.Need-mul-result-3
 mul-result-3 c = search needs
 
--- src/lib.rt:279:13
 shared-slice-read-result-3 : tie.Need-shared-slice-read-result-3
 shared-slice-read-result-3 c = search needs
 
--- src/lib.rt:279:5
 add-result : tie.Need-add-result
 add-result c = omega (arith, c .before .before .before .pre .3 (c .before .before .if1 .left))
 
--- src/lib.rt:279:5
 sub-result : tie.Need-sub-result
 sub-result c = omega (arith, c .before .before .before .pre .3 (c .before .before .if1 .left))
 
--- src/lib.rt:272:1
 returns-2 : tie.Need-returns-2
-returns-2 c = rw (ne-eqb (c .before .before .before .args .c) (c .before .before .before .args .u) (c .before .before .if1 .left)) refl
+returns-2 c =
+    let entry = c .before .before .before in
+    rw (ne-eqb (entry .args .c) (entry .args .u) (c .before .before .if1 .left)) refl
 
 pub column-spec : {M : Type 1} → statement M
 column-spec =

@@ -9,29 +9,23 @@ use mir.Facts.{toZ-pos}
 use native.Mathlib.Omega.{arith}
 use Rattle.arrays.proofs.Signed.{with-drop, half-pos, drop-fits}
 
--- src/lib.rt:12:13
 cast-d : tie.Need-cast-d
 cast-d c = search needs
 
--- src/lib.rt:12:25
 cast-d-2 : tie.Need-cast-d-2
 cast-d-2 c = search needs
 
--- src/lib.rt:12:13
 sub-d : tie.Need-sub-d
 sub-d c =
     rw (toZ-pos w32 {n = c .args .yq} (omega arith), toZ-pos w32 {n = c .args .yp} (omega arith))
     (drop-fits (c .args .yq) (c .args .yp) (omega arith) (omega arith))
 
--- src/lib.rt:13:7
 cast-result : tie.Need-cast-result
 cast-result c = search needs
 
--- src/lib.rt:13:7
 add-result : tie.Need-add-result
 add-result c = rw (with-drop (c .args .far) (c .args .yq) (c .args .yp) (omega arith) (omega arith) (omega arith) (omega arith)) (omega arith)
 
--- src/lib.rt:13:6
 div-result : tie.Need-div-result
 div-result c =
     rw (
@@ -39,7 +33,6 @@ div-result c =
       half-pos (c .args .far + c .args .yq - c .args .yp) (omega arith),
     ) (omega arith)
 
--- src/lib.rt:13:5
 cast-result-2 : tie.Need-cast-result-2
 cast-result-2 c =
     simp (
@@ -48,7 +41,6 @@ cast-result-2 c =
       toZ-pos w32 {n = (c .args .far + c .args .yq - c .args .yp) / 2} (omega arith),
     ) (tt, omega arith)
 
--- src/lib.rt:8:1
 returns : tie.Need-returns
 returns c =
     simp (

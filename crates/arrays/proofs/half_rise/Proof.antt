@@ -9,23 +9,18 @@ use mir.Facts.{toZ-pos}
 use native.Mathlib.Omega.{arith}
 use Rattle.arrays.proofs.Signed.{add-pos, half-pos}
 
--- src/lib.rt:21:7
 cast-result : tie.Need-cast-result
 cast-result c = search needs
 
--- src/lib.rt:21:20
 cast-result-2 : tie.Need-cast-result-2
 cast-result-2 c = search needs
 
--- src/lib.rt:21:7
 add-result : tie.Need-add-result
 add-result c = rw (add-pos (c .args .far) (c .args .yq) (omega arith) (omega arith)) (omega arith)
 
--- src/lib.rt:21:32
 cast-result-3 : tie.Need-cast-result-3
 cast-result-3 c = search needs
 
--- src/lib.rt:21:7
 add-result-2 : tie.Need-add-result-2
 add-result-2 c =
     rw (
@@ -33,7 +28,6 @@ add-result-2 c =
       add-pos (c .args .far + c .args .yq) (c .args .yp) (omega arith) (omega arith),
     ) (omega arith)
 
--- src/lib.rt:21:6
 div-result : tie.Need-div-result
 div-result c =
     rw (
@@ -42,7 +36,6 @@ div-result c =
       half-pos (c .args .far + c .args .yq + c .args .yp) (omega arith),
     ) (omega arith)
 
--- src/lib.rt:21:5
 cast-result-4 : tie.Need-cast-result-4
 cast-result-4 c =
     simp (
@@ -52,7 +45,6 @@ cast-result-4 c =
       toZ-pos w32 {n = (c .args .far + c .args .yq + c .args .yp) / 2} (omega arith),
     ) (tt, omega arith)
 
--- src/lib.rt:17:1
 returns : tie.Need-returns
 returns c =
     simp (

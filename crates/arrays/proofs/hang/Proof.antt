@@ -15,79 +15,62 @@ Inv-loop right off₀ cover₀ first m d v a₀ s₀ i₀ off cover a s i = Hang
 abbrev μ-loop : tie.MeasureT-loop
 μ-loop right off₀ cover₀ first m d v a₀ s₀ i₀ off cover a s i = m - i
 
--- src/lib.rt:66:5
 loop-holds : tie.Need-loop-holds Inv-loop μ-loop
-loop-holds c = hang-start (c .before .before .before .args .right .now) (c .before .before .before .args .off .now) (c .before .before .before .args .cover .now) (c .before .before .before .args .first) (c .before .before .before .args .m) (c .before .before .before .args .d) (c .before .before .before .args .v) (c .before .before .before .pre .0) (c .before .before .before .pre .1) (c .before .before .before .pre .2) (c .before .before .before .pre .3)
+loop-holds c =
+    let entry = c .before .before .before in
+    hang-start (entry .args .right .now) (entry .args .off .now) (entry .args .cover .now) (entry .args .first) (entry .args .m) (entry .args .d) (entry .args .v) (entry .pre .0) (entry .pre .1) (entry .pre .2) (entry .pre .3)
 
--- src/lib.rt:67:13
 number-requires : tie.Need-number-requires Inv-loop μ-loop
 number-requires c κs = search needs
 
--- src/lib.rt:68:14
 mul-s : tie.Need-mul-s Inv-loop μ-loop
 mul-s c = search needs
 
--- src/lib.rt:68:14
 slice-read-s : tie.Need-slice-read-s Inv-loop μ-loop
 slice-read-s c = hang-off _ _ _ _ _ _ _ _ _ _ _ _ (c .before .before .before .loop .inv) (search needs) (c .before .number .result) (c .before .number .ensures .0)
 
--- src/lib.rt:68:9
 add-s : tie.Need-add-s Inv-loop μ-loop
 add-s c = omega (arith, hang-fits _ _ _ _ _ _ _ _ _ _ _ _ (c .before .before .before .loop .inv) (search needs) (c .before .number .result) (c .before .number .ensures .0))
 
--- src/lib.rt:69:18
 add-off : tie.Need-add-off Inv-loop μ-loop
 add-off c = omega (arith, hang-fits _ _ _ _ _ _ _ _ _ _ _ _ (c .before .before .before .loop .inv) (search needs) (c .before .number .result) (c .before .number .ensures .0))
 
--- src/lib.rt:69:18
 sub-off : tie.Need-sub-off Inv-loop μ-loop
 sub-off c = omega (arith, c .before .before .before .before .before .before .before .pre .4)
 
--- src/lib.rt:69:9
 mul-off : tie.Need-mul-off Inv-loop μ-loop
 mul-off c = search needs
 
--- src/lib.rt:69:9
 slice-write-off : tie.Need-slice-write-off Inv-loop μ-loop
 slice-write-off c = hang-off _ _ _ _ _ _ _ _ _ _ _ _ (c .before .before .before .loop .inv) (search needs) (c .before .number .result) (c .before .number .ensures .0)
 
--- src/lib.rt:70:9
 mul-cover : tie.Need-mul-cover Inv-loop μ-loop
 mul-cover c = search needs
 
--- src/lib.rt:70:9
 slice-write-cover : tie.Need-slice-write-cover Inv-loop μ-loop
 slice-write-cover c = hang-cover _ _ _ _ _ _ _ _ _ _ _ _ (c .before .before .before .loop .inv) (search needs) (c .before .number .result) (c .before .number .ensures .0)
 
--- src/lib.rt:71:13
 mul-a : tie.Need-mul-a Inv-loop μ-loop
 mul-a c = search needs
 
--- src/lib.rt:71:13
 shared-slice-read-a : tie.Need-shared-slice-read-a Inv-loop μ-loop
 shared-slice-read-a c = hang-right _ _ _ _ _ _ _ _ _ _ _ _ (c .before .before .before .before .loop .inv) (search needs) (c .before .before .number .result) (c .before .before .number .ensures .0)
 
--- src/lib.rt:72:9
 add-i : tie.Need-add-i Inv-loop μ-loop
 add-i c = search needs
 
--- src/lib.rt:66:5
 loop-less : tie.Need-loop-less Inv-loop μ-loop
 loop-less c = search needs
 
--- src/lib.rt:66:5
 loop-again : tie.Need-loop-again Inv-loop μ-loop
 loop-again c = hang-again _ _ _ _ _ _ _ _ _ _ _ _ (c .before .before .before .before .loop .inv) (search needs) (c .before .before .number .result) (c .before .before .number .ensures .0)
 
--- src/lib.rt:59:1
 same-length : tie.Need-same-length Inv-loop μ-loop
 same-length c = c .before .loop .inv .same-off
 
--- src/lib.rt:59:1
 same-length-2 : tie.Need-same-length-2 Inv-loop μ-loop
 same-length-2 c = c .before .loop .inv .same-cover
 
--- src/lib.rt:59:1
 returns : tie.Need-returns Inv-loop μ-loop
 returns c = hang-end _ _ _ _ _ _ _ _ _ _ _ _ (c .before .loop .inv) (search needs)
 

@@ -15,51 +15,45 @@ Inv-loop right off p m a₀ s₀ i₀ a s i = Reach right off p m a s i
 abbrev μ-loop : tie.MeasureT-loop
 μ-loop right off p m a₀ s₀ i₀ a s i = m - i
 
--- src/lib.rt:48:5
 loop-holds : tie.Need-loop-holds Inv-loop μ-loop
 loop-holds c = reach-start (c .before .before .args .right .now) (c .before .before .args .off .now) (c .before .before .args .p) (c .before .before .args .m) (c .before .before .pre .0) (c .before .before .pre .1)
 
--- src/lib.rt:49:13
 number-requires : tie.Need-number-requires Inv-loop μ-loop
 number-requires c κs = search needs
 
--- src/lib.rt:50:13
 mul-a : tie.Need-mul-a Inv-loop μ-loop
 mul-a c = search needs
 
--- src/lib.rt:50:13
 shared-slice-read-a : tie.Need-shared-slice-read-a Inv-loop μ-loop
 shared-slice-read-a c = reach-here _ _ _ _ _ _ _ (c .before .before .before .loop .inv) (search needs) (c .before .number .result) _ (c .before .number .ensures .0) refl
 
--- src/lib.rt:51:13
 number-requires-2 : tie.Need-number-requires-2 Inv-loop μ-loop
 number-requires-2 c κs = search needs
 
--- src/lib.rt:52:14
 mul-s : tie.Need-mul-s Inv-loop μ-loop
 mul-s c = search needs
 
--- src/lib.rt:52:14
 shared-slice-read-s : tie.Need-shared-slice-read-s Inv-loop μ-loop
-shared-slice-read-s c = reach-next _ _ _ _ _ _ _ (c .before .before .before .before .before .loop .inv) (search needs) (c .before .before .before .number .result) (c .before .number2 .result) (c .before .before .before .number .ensures .0) (c .before .number2 .ensures .0)
+shared-slice-read-s c =
+    let number = c .before .before .before .number in
+    reach-next _ _ _ _ _ _ _ (c .before .before .before .before .before .loop .inv) (search needs) (number .result) (c .before .number2 .result) (number .ensures .0) (c .before .number2 .ensures .0)
 
--- src/lib.rt:52:9
 add-s : tie.Need-add-s Inv-loop μ-loop
-add-s c = omega (arith, c .before .before .before .before .before .before .before .before .pre .2, reach-sum _ _ _ _ _ _ _ (c .before .before .before .before .before .loop .inv) (search needs) (c .before .before .before .number .result) (c .before .number2 .result) (c .before .before .before .number .ensures .0) (c .before .number2 .ensures .0))
+add-s c =
+    let number = c .before .before .before .number in
+    omega (arith, c .before .before .before .before .before .before .before .before .pre .2, reach-sum _ _ _ _ _ _ _ (c .before .before .before .before .before .loop .inv) (search needs) (number .result) (c .before .number2 .result) (number .ensures .0) (c .before .number2 .ensures .0))
 
--- src/lib.rt:53:9
 add-i : tie.Need-add-i Inv-loop μ-loop
 add-i c = search needs
 
--- src/lib.rt:48:5
 loop-less : tie.Need-loop-less Inv-loop μ-loop
 loop-less c = search needs
 
--- src/lib.rt:48:5
 loop-again : tie.Need-loop-again Inv-loop μ-loop
-loop-again c = reach-again _ _ _ _ _ _ _ (c .before .before .before .before .before .loop .inv) (search needs) (c .before .before .before .number .result) (c .before .number2 .result) (c .before .before .before .number .ensures .0) (c .before .number2 .ensures .0)
+loop-again c =
+    let number = c .before .before .before .number in
+    reach-again _ _ _ _ _ _ _ (c .before .before .before .before .before .loop .inv) (search needs) (number .result) (c .before .number2 .result) (number .ensures .0) (c .before .number2 .ensures .0)
 
--- src/lib.rt:41:1
 returns : tie.Need-returns Inv-loop μ-loop
 returns c = reach-end _ _ _ _ _ _ _ (c .before .loop .inv) (search needs)
 

@@ -15,63 +15,50 @@ Inv-loop vs off cover xs₀ k i₀ xs i = Settling vs off cover xs₀ k xs i
 abbrev μ-loop : tie.MeasureT-loop
 μ-loop vs off cover xs₀ k i₀ xs i = i
 
--- src/lib.rt:288:5
 loop-holds : tie.Need-loop-holds Inv-loop μ-loop
-loop-holds c = settle-start _ _ _ _ _ (c .before .before .before .before .pre .0) (c .before .before .before .before .pre .1)
+loop-holds c =
+    let entry = c .before .before .before .before in
+    settle-start _ _ _ _ _ (entry .pre .0) (entry .pre .1)
 
--- src/lib.rt:289:9
 sub-i : tie.Need-sub-i Inv-loop μ-loop
 sub-i c = search needs
 
--- src/lib.rt:290:31
 mul-number : tie.Need-mul-number Inv-loop μ-loop
 mul-number c = search needs
 
--- src/lib.rt:290:31
 shared-slice-read-number : tie.Need-shared-slice-read-number Inv-loop μ-loop
 shared-slice-read-number c = omega (arith, c .before .before .before .before .before .before .before .pre .0 .of-vs, c .before .before .loop .inv .upto)
 
--- src/lib.rt:290:13
 number-requires : tie.Need-number-requires Inv-loop μ-loop
 number-requires c κs = search needs
 
--- src/lib.rt:291:31
 mul-number-2 : tie.Need-mul-number-2 Inv-loop μ-loop
 mul-number-2 c = search needs
 
--- src/lib.rt:291:31
 shared-slice-read-number-2 : tie.Need-shared-slice-read-number-2 Inv-loop μ-loop
 shared-slice-read-number-2 c = settle-cover _ _ _ _ _ (c .before .before .before .before .before .before .before .before .before .pre .0) _ _ (c .before .before .before .before .loop .inv) (search needs) _ _ (c .before .number .ensures .0) refl
 
--- src/lib.rt:291:13
 number-requires-2 : tie.Need-number-requires-2 Inv-loop μ-loop
 number-requires-2 c κs = search needs
 
--- src/lib.rt:292:17
 column-requires : tie.Need-column-requires Inv-loop μ-loop
 column-requires c κs = settle-ready _ _ _ _ _ (c .before .before .before .before .before .before .before .before .before .before .before .pre .0) _ _ (c .before .before .before .before .before .before .loop .inv) (search needs) _ _ (c .before .before .before .number .ensures .0) (c .before .number2 .ensures .0)
 
--- src/lib.rt:292:9
 mul-xs : tie.Need-mul-xs Inv-loop μ-loop
 mul-xs c = search needs
 
--- src/lib.rt:292:9
 slice-write-xs : tie.Need-slice-write-xs Inv-loop μ-loop
 slice-write-xs c = settle-xs _ _ _ _ _ (c .before .before .before .before .before .before .before .before .before .before .before .before .pre .0) _ _ (c .before .before .before .before .before .before .before .loop .inv) (search needs) _ _ (c .before .before .before .before .number .ensures .0) (c .before .before .number2 .ensures .0)
 
--- src/lib.rt:288:5
 loop-less : tie.Need-loop-less Inv-loop μ-loop
 loop-less c = search needs
 
--- src/lib.rt:288:5
 loop-again : tie.Need-loop-again Inv-loop μ-loop
 loop-again c = settle-again _ _ _ _ _ (c .before .before .before .before .before .before .before .before .before .before .before .before .pre .0) _ _ (c .before .before .before .before .before .before .before .loop .inv) (search needs) _ _ (c .before .before .before .before .number .ensures .0) (c .before .before .number2 .ensures .0) _ (c .column .ensures)
 
--- src/lib.rt:283:1
 same-length : tie.Need-same-length Inv-loop μ-loop
 same-length c = c .before .loop .inv .same
 
--- src/lib.rt:283:1
 returns : tie.Need-returns Inv-loop μ-loop
 returns c = settle-done _ _ _ _ _ (c .before .before .before .before .before .before .pre .0) _ _ (c .before .loop .inv) (search needs)
 

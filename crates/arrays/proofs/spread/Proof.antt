@@ -14,67 +14,51 @@ Inv-loop right off xs₀ v1 v2 k a₀ s₀ i₀ xs a s i = Spread right off xs�
 abbrev μ-loop : tie.MeasureT-loop
 μ-loop right off xs₀ v1 v2 k a₀ s₀ i₀ xs a s i = k - i
 
--- src/lib.rt:259:5
 loop-holds : tie.Need-loop-holds Inv-loop μ-loop
 loop-holds c = spread-start _ _ _ _ _ _ (c .before .before .before .pre)
 
--- src/lib.rt:260:13
 number-requires : tie.Need-number-requires Inv-loop μ-loop
 number-requires c κs = search needs
 
--- src/lib.rt:261:14
 mul-s : tie.Need-mul-s Inv-loop μ-loop
 mul-s c = search needs
 
--- src/lib.rt:261:14
 shared-slice-read-s : tie.Need-shared-slice-read-s Inv-loop μ-loop
 shared-slice-read-s c = spread-off _ _ _ _ _ _ _ _ _ _ (c .before .before .before .loop .inv) (search needs) _ (c .before .number .ensures .0)
 
--- src/lib.rt:261:9
 add-s : tie.Need-add-s Inv-loop μ-loop
 add-s c = omega (arith, spread-fits _ _ _ _ _ _ _ _ _ _ (c .before .before .before .loop .inv) (search needs) _ (c .before .number .ensures .0) (c .before .before .before .before .before .before .before .pre .fits))
 
--- src/lib.rt:262:9
 mul-xs : tie.Need-mul-xs Inv-loop μ-loop
 mul-xs c = search needs
 
--- src/lib.rt:262:9
 slice-write-xs : tie.Need-slice-write-xs Inv-loop μ-loop
 slice-write-xs c = spread-xs _ _ _ _ _ _ _ _ _ _ (c .before .before .before .loop .inv) (search needs) _ (c .before .number .ensures .0)
 
--- src/lib.rt:264:13
 same-length : tie.Need-same-length Inv-loop μ-loop
 same-length c = spread-same _ _ _ _ _ _ _ _ _ _ (c .before .before .before .before .loop .inv) (search needs) _ (c .before .before .number .ensures .0)
 
--- src/lib.rt:264:13
 returns : tie.Need-returns Inv-loop μ-loop
 returns c = spread-end _ _ _ _ _ _ _ _ _ _ (c .before .before .before .before .loop .inv) (search needs) _ (c .before .before .number .ensures .0) (c .if1 .taken)
 
--- src/lib.rt:266:13
 mul-a : tie.Need-mul-a Inv-loop μ-loop
 mul-a c = search needs
 
--- src/lib.rt:266:13
 shared-slice-read-a : tie.Need-shared-slice-read-a Inv-loop μ-loop
 shared-slice-read-a c = spread-right _ _ _ _ _ _ _ _ _ _ (c .before .before .before .before .before .loop .inv) (search needs) _ (c .before .before .before .number .ensures .0)
 
--- src/lib.rt:267:9
 add-i : tie.Need-add-i Inv-loop μ-loop
 add-i c = search needs
 
--- src/lib.rt:259:5
 loop-less : tie.Need-loop-less Inv-loop μ-loop
 loop-less c = search needs
 
--- src/lib.rt:259:5
 loop-again : tie.Need-loop-again Inv-loop μ-loop
 loop-again c = spread-again _ _ _ _ _ _ _ _ _ _ (c .before .before .before .before .before .loop .inv) (search needs) _ (c .before .before .before .number .ensures .0) (c .before .if1 .left)
 
--- src/lib.rt:252:1
 same-length-2 : tie.Need-same-length-2 Inv-loop μ-loop
 same-length-2 c = c .before .loop .inv .same
 
--- src/lib.rt:252:1
 returns-2 : tie.Need-returns-2 Inv-loop μ-loop
 returns-2 c = spread-done _ _ _ _ _ _ _ _ _ _ (c .before .loop .inv) (search needs)
 

@@ -8,35 +8,27 @@ use native.Mathlib.Omega.{arith}
 use mathlib.Core.Path.{refl}
 use lib.ListN.{length-set}
 
--- src/lib.rt:29:9
 number-requires : tie.Need-number-requires
 number-requires c κs = search needs
 
--- src/lib.rt:30:9
 number-requires-2 : tie.Need-number-requires-2
 number-requires-2 c κs = search needs
 
--- src/lib.rt:31:5
 mul-s : tie.Need-mul-s
 mul-s c = search needs
 
--- src/lib.rt:31:5
 slice-write-s : tie.Need-slice-write-s
 slice-write-s c = search needs
 
--- src/lib.rt:32:5
 mul-s-2 : tie.Need-mul-s-2
 mul-s-2 c = search needs
 
--- src/lib.rt:32:5
 slice-write-s-2 : tie.Need-slice-write-s-2
 slice-write-s-2 c = simp length-set (omega arith)
 
--- src/lib.rt:25:1
 same-length : tie.Need-same-length
 same-length c = search needs
 
--- src/lib.rt:25:1
 returns : tie.Need-returns
 returns c = rw (c .before .number .ensures .0, c .number2 .ensures .0) refl
 

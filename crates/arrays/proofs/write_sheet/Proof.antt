@@ -15,83 +15,65 @@ Inv-loop vs k xs ys buffer₀ i₀ buffer i = Writing vs k xs ys buffer₀ buffe
 abbrev μ-loop : tie.MeasureT-loop
 μ-loop vs k xs ys buffer₀ i₀ buffer i = k - i
 
--- src/lib.rt:316:5
 loop-holds : tie.Need-loop-holds Inv-loop μ-loop
 loop-holds c = write-start _ _ _ _ _
 
--- src/lib.rt:317:31
 mul-number : tie.Need-mul-number Inv-loop μ-loop
 mul-number c = search needs
 
--- src/lib.rt:317:31
 shared-slice-read-number : tie.Need-shared-slice-read-number Inv-loop μ-loop
 shared-slice-read-number c = search needs
 
--- src/lib.rt:317:13
 number-requires : tie.Need-number-requires Inv-loop μ-loop
 number-requires c κs = search needs
 
--- src/lib.rt:318:25
 mul-buffer : tie.Need-mul-buffer Inv-loop μ-loop
 mul-buffer c = search needs
 
--- src/lib.rt:318:25
 shared-slice-read-buffer : tie.Need-shared-slice-read-buffer Inv-loop μ-loop
 shared-slice-read-buffer c = let f = c .before .before .before .before .before .before .before .before .before .pre .3 (c .before .before .before .before .loop .i) (search needs) in rw (c .before .number .ensures .0) (omega (arith, f .0, f .1))
 
--- src/lib.rt:318:16
 mul-buffer-2 : tie.Need-mul-buffer-2 Inv-loop μ-loop
 mul-buffer-2 c = search needs
 
--- src/lib.rt:318:9
 mul-buffer-3 : tie.Need-mul-buffer-3 Inv-loop μ-loop
 mul-buffer-3 c = search needs
 
--- src/lib.rt:318:9
 slice-write-buffer : tie.Need-slice-write-buffer Inv-loop μ-loop
 slice-write-buffer c = search needs
 
--- src/lib.rt:319:29
 mul-buffer-4 : tie.Need-mul-buffer-4 Inv-loop μ-loop
 mul-buffer-4 c = search needs
 
--- src/lib.rt:319:29
 shared-slice-read-buffer-2 : tie.Need-shared-slice-read-buffer-2 Inv-loop μ-loop
 shared-slice-read-buffer-2 c = let f = c .before .before .before .before .before .before .before .before .before .before .pre .3 (c .before .before .before .before .before .loop .i) (search needs) in rw (c .before .before .number .ensures .0) (omega (arith, f .0, f .1))
 
--- src/lib.rt:319:16
 mul-buffer-5 : tie.Need-mul-buffer-5 Inv-loop μ-loop
 mul-buffer-5 c = search needs
 
--- src/lib.rt:319:16
 add-buffer : tie.Need-add-buffer Inv-loop μ-loop
 add-buffer c = search needs
 
--- src/lib.rt:319:9
 mul-buffer-6 : tie.Need-mul-buffer-6 Inv-loop μ-loop
 mul-buffer-6 c = search needs
 
--- src/lib.rt:319:9
 slice-write-buffer-2 : tie.Need-slice-write-buffer-2 Inv-loop μ-loop
 slice-write-buffer-2 c = simp length-set (omega arith)
 
--- src/lib.rt:320:9
 add-i : tie.Need-add-i Inv-loop μ-loop
 add-i c = search needs
 
--- src/lib.rt:316:5
 loop-less : tie.Need-loop-less Inv-loop μ-loop
 loop-less c = search needs
 
--- src/lib.rt:316:5
 loop-again : tie.Need-loop-again Inv-loop μ-loop
-loop-again c = write-again _ _ _ _ _ _ _ (c .before .before .before .before .before .loop .inv) (search needs) (c .before .before .before .before .before .before .before .before .before .before .pre .0) (c .before .before .before .before .before .before .before .before .before .before .pre .2) _ (c .before .before .number .ensures .0)
+loop-again c =
+    let entry = c .before .before .before .before .before .before .before .before .before .before in
+    write-again _ _ _ _ _ _ _ (c .before .before .before .before .before .loop .inv) (search needs) (entry .pre .0) (entry .pre .2) _ (c .before .before .number .ensures .0)
 
--- src/lib.rt:311:1
 same-length : tie.Need-same-length Inv-loop μ-loop
 same-length c = c .before .loop .inv .same
 
--- src/lib.rt:311:1
 returns : tie.Need-returns Inv-loop μ-loop
 returns c = write-done _ _ _ _ _ _ _ (c .before .loop .inv) (search needs)
 

@@ -20,56 +20,45 @@ Inv-loop ds n₀ u₀ u = (u ≤ length ds) × (first 0 (length ds) (badDegree (
 abbrev μ-loop : tie.MeasureT-loop
 μ-loop ds n₀ u₀ u = length ds - u
 
--- src/lib.rt:113:5
 loop-holds : tie.Need-loop-holds Inv-loop μ-loop
 loop-holds c = (search needs, rw sub-zero refl)
 
--- src/lib.rt:114:31
 mul-number : tie.Need-mul-number Inv-loop μ-loop
 mul-number c = search needs
 
--- src/lib.rt:114:31
 shared-slice-read-number : tie.Need-shared-slice-read-number Inv-loop μ-loop
 shared-slice-read-number c = search needs
 
--- src/lib.rt:114:13
 number-requires : tie.Need-number-requires Inv-loop μ-loop
 number-requires c κs = search needs
 
--- src/lib.rt:116:13
 returns : tie.Need-returns Inv-loop μ-loop
 returns c =
     let v = c .before .before .before .before .loop in
     let l = c .before .before .before .before .before .before .args .ds .now in
     sym (v .inv .1 ∙ first-here _ (v .u) (length l) (omega arith) (degree-low (length l) l (v .u) (omega arith)))
 
--- src/lib.rt:118:12
 sub-if2 : tie.Need-sub-if2 Inv-loop μ-loop
 sub-if2 c = search needs
 
--- src/lib.rt:119:13
 returns-2 : tie.Need-returns-2 Inv-loop μ-loop
 returns-2 c =
     let v = c .before .before .before .before .before .loop in
     let l = c .before .before .before .before .before .before .before .args .ds .now in
     sym (v .inv .1 ∙ first-here _ (v .u) (length l) (omega arith) (degree-high (length l) l (v .u) (omega arith) (omega arith)))
 
--- src/lib.rt:121:9
 add-u : tie.Need-add-u Inv-loop μ-loop
 add-u c = search needs
 
--- src/lib.rt:113:5
 loop-less : tie.Need-loop-less Inv-loop μ-loop
 loop-less c = search needs
 
--- src/lib.rt:113:5
 loop-again : tie.Need-loop-again Inv-loop μ-loop
 loop-again c =
     let v = c .before .before .before .before .before .loop in
     let l = c .before .before .before .before .before .before .before .args .ds .now in
     (search needs, v .inv .1 ∙ first-next _ (v .u) (length l) (omega arith) (degree-fine (length l) l (v .u) (omega arith) (omega arith)))
 
--- src/lib.rt:107:1
 returns-3 : tie.Need-returns-3 Inv-loop μ-loop
 returns-3 c =
     let v = c .before .loop in

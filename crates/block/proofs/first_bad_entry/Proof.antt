@@ -24,86 +24,72 @@ Inv-loop vs marks₀ n k₀ marks k =
 abbrev μ-loop : tie.MeasureT-loop
 μ-loop vs marks₀ n k₀ marks k = length vs + 1 - k
 
--- src/lib.rt:92:5
 loop-holds : tie.Need-loop-holds Inv-loop μ-loop
 loop-holds c =
     let a = c .before .before .args in
     let e : length (a .vs .now) + 1 - 1 ≡ length (a .vs .now) = omega arith in
     (search needs, search needs, search needs, unmarked (a .vs .now) (a .marks .now) (c .before .before .pre .2), rw e refl)
 
--- src/lib.rt:93:34
 sub-number : tie.Need-sub-number Inv-loop μ-loop
 sub-number c = search needs
 
--- src/lib.rt:93:31
 mul-number : tie.Need-mul-number Inv-loop μ-loop
 mul-number c = search needs
 
--- src/lib.rt:93:31
 shared-slice-read-number : tie.Need-shared-slice-read-number Inv-loop μ-loop
 shared-slice-read-number c = search needs
 
--- src/lib.rt:93:13
 number-requires : tie.Need-number-requires Inv-loop μ-loop
 number-requires c κs = search needs
 
--- src/lib.rt:95:13
 same-length : tie.Need-same-length Inv-loop μ-loop
 same-length c = search needs
 
--- src/lib.rt:95:13
 returns : tie.Need-returns Inv-loop μ-loop
 returns c =
     let v = c .before .before .before .before .loop in
     let l = c .before .before .before .before .before .before .before .args .vs .now in
     sym (v .inv .4 ∙ first-here _ (v .k) (length l + 1) (omega arith) (entry-high (length l) l (v .k) (omega arith)))
 
--- src/lib.rt:97:12
 slice-read-if2 : tie.Need-slice-read-if2 Inv-loop μ-loop
 slice-read-if2 c = search needs
 
--- src/lib.rt:98:13
 same-length-2 : tie.Need-same-length-2 Inv-loop μ-loop
 same-length-2 c = search needs
 
--- src/lib.rt:98:13
 returns-2 : tie.Need-returns-2 Inv-loop μ-loop
 returns-2 c =
+    let number = c .before .before .before .number in
     let v = c .before .before .before .before .before .before .loop in
     let l = c .before .before .before .before .before .before .before .before .before .args .vs .now in
-    let e = c .before .before .before .number .ensures .0 in
-    sym (v .inv .4 ∙ first-here _ (v .k) (length l + 1) (omega arith) (entry-low (length l) l (v .k) (omega arith) ∙ seen l (v .marks) (v .k) (c .before .before .before .number .result) e (v .inv .3) (omega arith) (c .if2 .taken)))
+    let e = number .ensures .0 in
+    sym (v .inv .4 ∙ first-here _ (v .k) (length l + 1) (omega arith) (entry-low (length l) l (v .k) (omega arith) ∙ seen l (v .marks) (v .k) (number .result) e (v .inv .3) (omega arith) (c .if2 .taken)))
 
--- src/lib.rt:100:9
 slice-write-marks : tie.Need-slice-write-marks Inv-loop μ-loop
 slice-write-marks c = search needs
 
--- src/lib.rt:101:9
 add-k : tie.Need-add-k Inv-loop μ-loop
 add-k c = search needs
 
--- src/lib.rt:92:5
 loop-less : tie.Need-loop-less Inv-loop μ-loop
 loop-less c = search needs
 
--- src/lib.rt:92:5
 loop-again : tie.Need-loop-again Inv-loop μ-loop
 loop-again c =
+    let number = c .before .before .before .number in
     let v = c .before .before .before .before .before .before .loop in
     let l = c .before .before .before .before .before .before .before .before .before .args .vs .now in
-    let e = c .before .before .before .number .ensures .0 in (
+    let e = number .ensures .0 in (
       search needs,
       search needs,
       search needs,
-      mark-more l (v .marks) (v .k) (c .before .before .before .number .result) e (v .inv .3) (omega arith) (omega arith) (omega arith),
-      v .inv .4 ∙ first-next _ (v .k) (length l + 1) (omega arith) (entry-low (length l) l (v .k) (omega arith) ∙ unseen l (v .marks) (v .k) (c .before .before .before .number .result) e (v .inv .3) (omega arith) (c .if2 .left)),
+      mark-more l (v .marks) (v .k) (number .result) e (v .inv .3) (omega arith) (omega arith) (omega arith),
+      v .inv .4 ∙ first-next _ (v .k) (length l + 1) (omega arith) (entry-low (length l) l (v .k) (omega arith) ∙ unseen l (v .marks) (v .k) (number .result) e (v .inv .3) (omega arith) (c .if2 .left)),
     )
 
--- src/lib.rt:86:1
 same-length-3 : tie.Need-same-length-3 Inv-loop μ-loop
 same-length-3 c = search needs
 
--- src/lib.rt:86:1
 returns-3 : tie.Need-returns-3 Inv-loop μ-loop
 returns-3 c =
     let v = c .before .loop in

@@ -6,27 +6,21 @@ use Rattle.block.proofs.is_marked.Lts as lts
 use mathlib.Core.Path.{sym}
 use Rattle.block.proofs.Laws.{mark-first, mark-second, mark-third}
 
--- src/lib.rt:76:8
 shared-slice-read-if1 : tie.Need-shared-slice-read-if1
 shared-slice-read-if1 c = search needs
 
--- src/lib.rt:77:9
 returns : tie.Need-returns
 returns c = (mark-first (c .before .before .args .s .now) (c .if1 .taken))
 
--- src/lib.rt:79:8
 shared-slice-read-if2 : tie.Need-shared-slice-read-if2
 shared-slice-read-if2 c = search needs
 
--- src/lib.rt:80:9
 returns-2 : tie.Need-returns-2
 returns-2 c = (mark-second (c .before .before .before .before .args .s .now) (c .before .before .if1 .left) (c .if2 .taken))
 
--- src/lib.rt:82:5
 shared-slice-read-result : tie.Need-shared-slice-read-result
 shared-slice-read-result c = search needs
 
--- src/lib.rt:72:1
 returns-3 : tie.Need-returns-3
 returns-3 c = mark-third (c .before .before .before .before .before .args .s .now) (c .before .before .before .if1 .left) (c .before .if2 .left)
 

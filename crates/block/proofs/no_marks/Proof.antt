@@ -5,7 +5,6 @@ use Rattle.block.proofs.no_marks.Lts as lts
 use Rattle.block.proofs.Laws.{zeros-at}
 use borrow.Author.Needs.{needs}
 
--- src/lib.rt:155:1
 returns : tie.Need-returns
 returns c = (search needs, zeros-at 1000)
 

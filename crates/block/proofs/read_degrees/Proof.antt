@@ -11,38 +11,39 @@ use mathlib.Core.Path.{_≡_, refl, sym, ap, _∙_}
 use Rattle.block.specs.Block.{degrees, badDegree}
 use Rattle.block.proofs.Laws.{unpacked-length, degrees-read, same-first}
 
--- src/lib.rt:178:22
 degrees-at-requires : tie.Need-degrees-at-requires
 degrees-at-requires c κs = search needs
 
--- src/lib.rt:178:5
 unpack-requires : tie.Need-unpack-requires
 unpack-requires c κs = search needs
 
--- src/lib.rt:179:22
 slice-reshare-prefix-first-bad-degree : tie.Need-slice-reshare-prefix-first-bad-degree
 slice-reshare-prefix-first-bad-degree c = search needs
 
--- src/lib.rt:179:22
 slice-aggregate-first-bad-degree : tie.Need-slice-aggregate-first-bad-degree
-slice-aggregate-first-bad-degree c = sym (unpacked-length (c .before .before .before .before .before .before .before .before .args .s .now) (c .before .before .before .unpack .last .1 .1 .1 .0) (c .before .before .before .before .before .degrees-at .result) (c .before .before .before .before .before .before .before .before .args .b .n) (c .before .before .before .unpack .ensures))
+slice-aggregate-first-bad-degree c =
+    let entry = c .before .before .before .before .before .before .before .before in
+    let unpack = c .before .before .before .unpack in
+    sym (unpacked-length (entry .args .s .now) (unpack .last .1 .1 .1 .0) (c .before .before .before .before .before .degrees-at .result) (entry .args .b .n) (unpack .ensures))
 
--- src/lib.rt:179:5
 first-bad-degree-requires : tie.Need-first-bad-degree-requires
 first-bad-degree-requires c κs =
-    let e = unpacked-length (c .before .before .before .before .before .before .before .before .args .s .now) (c .before .before .before .unpack .last .1 .1 .1 .0) (c .before .before .before .before .before .degrees-at .result) (c .before .before .before .before .before .before .before .before .args .b .n) (c .before .before .before .unpack .ensures) in
+    let entry = c .before .before .before .before .before .before .before .before in
+    let unpack = c .before .before .before .unpack in
+    let e = unpacked-length (entry .args .s .now) (unpack .last .1 .1 .1 .0) (c .before .before .before .before .before .degrees-at .result) (entry .args .b .n) (unpack .ensures) in
     (omega (arith, e), omega (arith, e))
 
--- src/lib.rt:173:1
 same-length : tie.Need-same-length
 same-length c = search needs
 
--- src/lib.rt:173:1
 returns : tie.Need-returns
 returns c =
-    let L = unpacked-length (c .before .before .before .before .before .before .before .before .before .args .s .now) (c .before .before .before .before .unpack .last .1 .1 .1 .0) (c .before .before .before .before .before .before .degrees-at .result) (c .before .before .before .before .before .before .before .before .before .args .b .n) (c .before .before .before .before .unpack .ensures) in
-    let D = degrees-read (c .before .before .before .before .before .before .before .before .before .args .s .now) (c .before .before .before .before .unpack .last .1 .1 .1 .0) (c .before .before .before .before .before .before .before .before .before .args .b .n) (c .before .before .before .before .before .before .degrees-at .result) (c .before .before .before .before .before .before .before .before .before .pre .0) (c .before .before .before .before .before .before .degrees-at .ensures) (c .before .before .before .before .unpack .ensures) in
-    (D, same-first badDegree _ (degrees (c .before .before .before .before .before .before .before .before .before .args .s .now)) (c .before .before .before .before .before .before .before .before .before .args .b .n) 0 (c .first-bad-degree .result) D L (c .first-bad-degree .ensures))
+    let entry = c .before .before .before .before .before .before .before .before .before in
+    let degrees-at = c .before .before .before .before .before .before .degrees-at in
+    let unpack = c .before .before .before .before .unpack in
+    let L = unpacked-length (entry .args .s .now) (unpack .last .1 .1 .1 .0) (degrees-at .result) (entry .args .b .n) (unpack .ensures) in
+    let D = degrees-read (entry .args .s .now) (unpack .last .1 .1 .1 .0) (entry .args .b .n) (degrees-at .result) (entry .pre .0) (degrees-at .ensures) (unpack .ensures) in
+    (D, same-first badDegree _ (degrees (entry .args .s .now)) (entry .args .b .n) 0 (c .first-bad-degree .result) D L (c .first-bad-degree .ensures))
 
 pub read-degrees-spec : {M : Type 1} → statement M
 read-degrees-spec =

@@ -17,42 +17,33 @@ Inv-loop ds at₀ t₀ u₀ at t u = (u ≤ length ds) × (length at ≡ length 
 abbrev μ-loop : tie.MeasureT-loop
 μ-loop ds at₀ t₀ u₀ at t u = length ds - u
 
--- src/lib.rt:147:5
 loop-holds : tie.Need-loop-holds Inv-loop μ-loop
 loop-holds c = (search needs, search needs, sym (sum-none (c .args .ds .now)), λ k h. absurd (omega arith))
 
--- src/lib.rt:148:9
 mul-at : tie.Need-mul-at Inv-loop μ-loop
 mul-at c = search needs
 
--- src/lib.rt:148:9
 slice-write-at : tie.Need-slice-write-at Inv-loop μ-loop
 slice-write-at c = search needs
 
--- src/lib.rt:149:14
 mul-t : tie.Need-mul-t Inv-loop μ-loop
 mul-t c = search needs
 
--- src/lib.rt:149:14
 shared-slice-read-t : tie.Need-shared-slice-read-t Inv-loop μ-loop
 shared-slice-read-t c = search needs
 
--- src/lib.rt:149:9
 add-t : tie.Need-add-t Inv-loop μ-loop
 add-t c =
     let v = c .before .before .loop in
     let l = c .before .before .before .args .ds .now in
     omega (arith, sum-step l (v .u) (omega arith), sum-part l (v .u + 1))
 
--- src/lib.rt:150:9
 add-u : tie.Need-add-u Inv-loop μ-loop
 add-u c = search needs
 
--- src/lib.rt:147:5
 loop-less : tie.Need-loop-less Inv-loop μ-loop
 loop-less c = search needs
 
--- src/lib.rt:147:5
 loop-again : tie.Need-loop-again Inv-loop μ-loop
 loop-again c =
     let v = c .before .before .loop in
@@ -63,19 +54,15 @@ loop-again c =
       store-more (λ k x. x ≡ sumOf (take k l)) (v .at) (v .u) (v .t) (omega arith) (v .inv .3) (v .inv .2),
     )
 
--- src/lib.rt:152:5
 mul-at-2 : tie.Need-mul-at-2 Inv-loop μ-loop
 mul-at-2 c = search needs
 
--- src/lib.rt:152:5
 slice-write-at-2 : tie.Need-slice-write-at-2 Inv-loop μ-loop
 slice-write-at-2 c = search needs
 
--- src/lib.rt:141:1
 same-length : tie.Need-same-length Inv-loop μ-loop
 same-length c = search needs
 
--- src/lib.rt:141:1
 returns : tie.Need-returns Inv-loop μ-loop
 returns c =
     let v = c .before .loop in

@@ -18,42 +18,33 @@ Inv-loop ds t₀ u₀ t u = (u ≤ length ds) × (t ≡ sumOf (take u ds)) × (t
 abbrev μ-loop : tie.MeasureT-loop
 μ-loop ds t₀ u₀ t u = length ds - u
 
--- src/lib.rt:133:5
 loop-holds : tie.Need-loop-holds Inv-loop μ-loop
 loop-holds c = (search needs, sym (sum-none (c .before .args .ds .now)), search needs)
 
--- src/lib.rt:134:28
 mul-number : tie.Need-mul-number Inv-loop μ-loop
 mul-number c = search needs
 
--- src/lib.rt:134:28
 shared-slice-read-number : tie.Need-shared-slice-read-number Inv-loop μ-loop
 shared-slice-read-number c = search needs
 
--- src/lib.rt:134:14
 number-requires : tie.Need-number-requires Inv-loop μ-loop
 number-requires c κs = search needs
 
--- src/lib.rt:134:9
 add-t : tie.Need-add-t Inv-loop μ-loop
 add-t c = search needs
 
--- src/lib.rt:135:9
 add-u : tie.Need-add-u Inv-loop μ-loop
 add-u c = search needs
 
--- src/lib.rt:133:5
 loop-less : tie.Need-loop-less Inv-loop μ-loop
 loop-less c = search needs
 
--- src/lib.rt:133:5
 loop-again : tie.Need-loop-again Inv-loop μ-loop
 loop-again c =
     let v = c .before .before .before .loop in
     let l = c .before .before .before .before .before .args .ds .now in
     omega (arith, sum-step l (v .u) (omega arith), c .number .ensures)
 
--- src/lib.rt:127:1
 returns : tie.Need-returns Inv-loop μ-loop
 returns c =
     let v = c .before .loop in

@@ -8,27 +8,21 @@ use mathlib.Core.Path.{_≡_, refl, sym, ap, _∙_}
 use Rattle.capi.specs.Codes.{codeOf, postOf}
 use Rattle.unit.specs.Refusals.{replyOf, postedOf}
 
--- src/lib.rt:37:26
 enum-known-a : tie.Need-enum-known-a
 enum-known-a c = search needs
 
--- src/lib.rt:37:32
 cast-result : tie.Need-cast-result
 cast-result c = search needs
 
--- src/lib.rt:38:25
 enum-known-a-2 : tie.Need-enum-known-a-2
 enum-known-a-2 c = search needs
 
--- src/lib.rt:38:31
 refusal-code-requires : tie.Need-refusal-code-requires
 refusal-code-requires c κs = search needs
 
--- src/lib.rt:33:1
 returns : tie.Need-returns
 returns c = search needs
 
--- src/lib.rt:33:1
 returns-2 : tie.Need-returns-2
 returns-2 c = c .refusal-code .ensures ∙ sym (ap (λ (z : _). codeOf (replyOf z)) (c .before .before .a2 .given .1))
 

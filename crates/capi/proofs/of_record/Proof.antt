@@ -10,19 +10,15 @@ use mathlib.Core.Path.{_≡_, refl, sym, ap, _∙_}
 use Rattle.capi.specs.Codes.{codeOf, postOf}
 use Rattle.unit.specs.Refusals.{replyOf, postedOf}
 
--- src/lib.rt:94:19
 standing-code-requires : tie.Need-standing-code-requires
 standing-code-requires c κs = search needs
 
--- src/lib.rt:95:16
 first-requires : tie.Need-first-requires
 first-requires c κs = search needs
 
--- src/lib.rt:96:17
 second-requires : tie.Need-second-requires
 second-requires c κs = search needs
 
--- src/lib.rt:86:1
 returns : tie.Need-returns
 returns c = rw (c .before .before .standing-code .ensures, c .before .first .ensures, c .second .ensures) refl
 

@@ -8,11 +8,9 @@ use mathlib.Core.Path.{_≡_, refl, sym, ap, _∙_}
 use Rattle.capi.specs.Codes.{codeOf, postOf}
 use Rattle.unit.specs.Refusals.{replyOf, postedOf}
 
--- src/lib.rt:104:16
 refusal-code-requires : tie.Need-refusal-code-requires
 refusal-code-requires c κs = search needs
 
--- src/lib.rt:100:1
 returns : tie.Need-returns
 returns c = rw (c .refusal-code .ensures) refl
 

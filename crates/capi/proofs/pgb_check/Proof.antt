@@ -9,15 +9,12 @@ use mathlib.Core.Path.{_≡_, refl, sym, ap, _∙_}
 use Rattle.capi.specs.Codes.{codeOf, postOf}
 use Rattle.unit.specs.Refusals.{replyOf, postedOf}
 
--- src/lib.rt:46:10
 check-requires : tie.Need-check-requires
 check-requires c κs = search needs
 
--- src/lib.rt:46:5
 code-requires : tie.Need-code-requires
 code-requires c κs = search needs
 
--- src/lib.rt:42:1
 returns : tie.Need-returns
 returns c = c .code .ensures ∙ ap codeOf (c .before .check .ensures)
 

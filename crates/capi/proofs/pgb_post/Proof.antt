@@ -10,31 +10,24 @@ use mathlib.Core.Path.{_≡_, refl, sym, ap, _∙_}
 use Rattle.capi.specs.Codes.{codeOf, postOf}
 use Rattle.unit.specs.Refusals.{replyOf, postedOf}
 
--- src/lib.rt:117:11
 post-requires : tie.Need-post-requires
 post-requires c κs = search needs
 
--- src/lib.rt:118:26
 enum-known-r : tie.Need-enum-known-r
 enum-known-r c = search needs
 
--- src/lib.rt:118:32
 of-record-requires : tie.Need-of-record-requires
 of-record-requires c κs = search needs
 
--- src/lib.rt:119:25
 enum-known-f : tie.Need-enum-known-f
 enum-known-f c = search needs
 
--- src/lib.rt:119:31
 of-refusal-requires : tie.Need-of-refusal-requires
 of-refusal-requires c κs = search needs
 
--- src/lib.rt:113:1
 returns : tie.Need-returns
 returns c = c .of-record .ensures ∙ sym (ap (λ (z : _). postOf (postedOf z)) (c .before .before .r .given .1)) ∙ ap postOf (c .before .before .before .before .post .ensures)
 
--- src/lib.rt:113:1
 returns-2 : tie.Need-returns-2
 returns-2 c = c .of-refusal .ensures ∙ sym (ap (λ (z : _). postOf (postedOf z)) (c .before .before .f .given .1)) ∙ ap postOf (c .before .before .before .before .post .ensures)
 

@@ -9,21 +9,19 @@ use mathlib.Core.Path.{_≡_, refl, sym, ap, _∙_}
 use Rattle.capi.specs.Codes.{codeOf, postOf}
 use Rattle.unit.specs.Refusals.{replyOf, postedOf}
 
--- src/lib.rt:53:10
 sheet-requires : tie.Need-sheet-requires
 sheet-requires c κs = search needs
 
--- src/lib.rt:53:5
 code-requires : tie.Need-code-requires
 code-requires c κs = search needs
 
--- src/lib.rt:49:1
 same-length : tie.Need-same-length
 same-length c = search needs
 
--- src/lib.rt:49:1
 returns : tie.Need-returns
-returns c = (c .code .ensures ∙ ap codeOf (c .before .before .before .sheet .ensures .0), c .before .before .before .sheet .ensures .1)
+returns c =
+    let sheet = c .before .before .before .sheet in
+    (c .code .ensures ∙ ap codeOf (sheet .ensures .0), sheet .ensures .1)
 
 pub pgb-sheet-spec : {M : Type 1} → statement M
 pgb-sheet-spec = tie.close (tie.spec sheet-requires code-requires same-length returns)

@@ -8,27 +8,21 @@ use Rattle.arrays.proofs.spread.Reads as spread-reads
 use mathlib.Core.Path.{refl, ap, _∙_}
 use Rattle.engine.proofs.Read.{laid-ready}
 
--- src/lib.rt:301:28
 shared-slice-read-spread : tie.Need-shared-slice-read-spread
 shared-slice-read-spread c = search needs
 
--- src/lib.rt:301:35
 shared-slice-read-spread-2 : tie.Need-shared-slice-read-spread-2
 shared-slice-read-spread-2 c = search needs
 
--- src/lib.rt:301:5
 spread-requires : tie.Need-spread-requires
 spread-requires c κs = search needs
 
--- src/lib.rt:302:5
 settle-requires : tie.Need-settle-requires
 settle-requires c κs = laid-ready _ _ _ _ _ _ _ (c .before .before .before .before .before .before .before .before .before .before .before .before .pre) (c .before .before .before .spread .ensures)
 
--- src/lib.rt:297:1
 same-length : tie.Need-same-length
 same-length c = search needs
 
--- src/lib.rt:297:1
 returns : tie.Need-returns
 returns c = c .before .before .settle .ensures ∙ rw (c .before .before .before .before .before .before .spread .ensures) refl
 

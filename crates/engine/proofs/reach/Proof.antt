@@ -18,65 +18,58 @@ Inv-loop at ents vs rank k ys₀ off₀ cover₀ left₀ right₀ i₀ ys off co
 abbrev μ-loop : tie.MeasureT-loop
 μ-loop at ents vs rank k ys₀ off₀ cover₀ left₀ right₀ i₀ ys off cover left right i = k - i
 
--- src/lib.rt:222:11
 shared-slice-read-start : tie.Need-shared-slice-read-start Inv-loop μ-loop
 shared-slice-read-start c = search needs
 
--- src/lib.rt:222:18
 shared-slice-read-start-2 : tie.Need-shared-slice-read-start-2 Inv-loop μ-loop
 shared-slice-read-start-2 c = search needs
 
--- src/lib.rt:222:25
 shared-slice-read-start-3 : tie.Need-shared-slice-read-start-3 Inv-loop μ-loop
 shared-slice-read-start-3 c = search needs
 
--- src/lib.rt:222:5
 start-requires : tie.Need-start-requires Inv-loop μ-loop
-start-requires c κs = corners _ _ _ _ _ _ _ _ _ (c .before .before .before .before .before .before .before .before .before .before .before .before .before .before .before .before .before .pre .0) (c .before .before .before .before .before .before .before .before .before .before .before .before .before .before .before .before .before .pre .3)
+start-requires c κs =
+    let entry = c .before .before .before .before .before .before .before .before .before .before .before .before .before .before .before .before .before in
+    corners _ _ _ _ _ _ _ _ _ (entry .pre .0) (entry .pre .3)
 
--- src/lib.rt:224:5
 loop-holds : tie.Need-loop-holds Inv-loop μ-loop
-loop-holds c = (search needs, search needs, third-holds _ _ _ _ _ _ _ _ _ (c .before .before .before .before .before .before .before .before .before .before .before .before .before .before .before .before .before .before .before .before .before .before .before .before .before .before .before .before .pre .0) (c .before .before .before .before .before .before .before .before .before .before .before .before .before .before .before .before .before .before .before .before .before .before .before .before .before .before .before .before .pre .3) _ _ _ _ _ (c .before .before .before .before .before .before .before .before .before .before .start .ensures) (search needs) (search needs) (search needs) (search needs) (search needs), search needs, search needs, search needs, search needs, search needs)
+loop-holds c =
+    let entry = c .before .before .before .before .before .before .before .before .before .before .before .before .before .before .before .before .before .before .before .before .before .before .before .before .before .before .before .before in
+    (search needs, search needs, third-holds _ _ _ _ _ _ _ _ _ (entry .pre .0) (entry .pre .3) _ _ _ _ _ (c .before .before .before .before .before .before .before .before .before .before .start .ensures) (search needs) (search needs) (search needs) (search needs) (search needs), search needs, search needs, search needs, search needs, search needs)
 
--- src/lib.rt:225:9
 place-next-requires : tie.Need-place-next-requires Inv-loop μ-loop
 place-next-requires c κs = (c .before .before .before .before .before .before .before .before .before .before .before .before .before .before .before .before .before .before .before .before .before .before .before .before .before .before .before .before .before .before .before .before .before .before .before .pre .0, search needs, search needs, c .before .before .before .before .before .before .loop .inv .2)
 
--- src/lib.rt:226:9
 add-i : tie.Need-add-i Inv-loop μ-loop
-add-i c = omega (arith, c .before .before .before .before .before .before .before .before .before .before .before .before .before .before .before .before .before .loop .inv .1, c .before .before .before .before .before .before .before .before .before .before .before .before .before .before .before .before .before .before .before .before .before .before .before .before .before .before .before .before .before .before .before .before .before .before .before .before .before .before .before .before .before .before .before .before .before .before .pre .2, c .before .before .before .before .before .before .before .before .before .before .before .before .before .before .before .before .before .before .before .before .before .before .before .before .before .before .before .before .before .before .before .before .before .before .before .before .before .before .before .before .before .before .before .before .before .before .pre .0 .most)
+add-i c =
+    let entry = c .before .before .before .before .before .before .before .before .before .before .before .before .before .before .before .before .before .before .before .before .before .before .before .before .before .before .before .before .before .before .before .before .before .before .before .before .before .before .before .before .before .before .before .before .before .before in
+    omega (arith, c .before .before .before .before .before .before .before .before .before .before .before .before .before .before .before .before .before .loop .inv .1, entry .pre .2, entry .pre .0 .most)
 
--- src/lib.rt:224:5
 loop-less : tie.Need-loop-less Inv-loop μ-loop
 loop-less c = search needs
 
--- src/lib.rt:224:5
 loop-again : tie.Need-loop-again Inv-loop μ-loop
 loop-again c = (search needs, search needs, c .before .before .before .before .before .before .before .before .before .before .place-next .ensures, search needs, search needs, search needs, search needs, search needs)
 
--- src/lib.rt:218:1
 same-length : tie.Need-same-length Inv-loop μ-loop
 same-length c = search needs
 
--- src/lib.rt:218:1
 same-length-2 : tie.Need-same-length-2 Inv-loop μ-loop
 same-length-2 c = search needs
 
--- src/lib.rt:218:1
 same-length-3 : tie.Need-same-length-3 Inv-loop μ-loop
 same-length-3 c = search needs
 
--- src/lib.rt:218:1
 same-length-4 : tie.Need-same-length-4 Inv-loop μ-loop
 same-length-4 c = search needs
 
--- src/lib.rt:218:1
 same-length-5 : tie.Need-same-length-5 Inv-loop μ-loop
 same-length-5 c = search needs
 
--- src/lib.rt:218:1
 returns : tie.Need-returns Inv-loop μ-loop
-returns c = let q : c .before .loop .i ≡ c .before .before .before .before .before .before .before .before .before .before .before .before .before .before .before .before .before .before .before .before .before .before .before .before .before .before .before .before .before .before .args .k = omega arith in subst (λ (j : ℕ). Holds (c .before .before .before .before .before .before .before .before .before .before .before .before .before .before .before .before .before .before .before .before .before .before .before .before .before .before .before .before .before .before .args .at .now) (c .before .before .before .before .before .before .before .before .before .before .before .before .before .before .before .before .before .before .before .before .before .before .before .before .before .before .before .before .before .before .args .ents .now) (c .before .before .before .before .before .before .before .before .before .before .before .before .before .before .before .before .before .before .before .before .before .before .before .before .before .before .before .before .before .before .args .vs .now) j (c .before .loop .ys) (c .before .loop .off) (c .before .loop .cover) (c .before .loop .left) (c .before .loop .right)) q (c .before .loop .inv .2)
+returns c =
+    let entry = c .before .before .before .before .before .before .before .before .before .before .before .before .before .before .before .before .before .before .before .before .before .before .before .before .before .before .before .before .before .before in
+    let q : c .before .loop .i ≡ entry .args .k = omega arith in subst (λ (j : ℕ). Holds (entry .args .at .now) (entry .args .ents .now) (entry .args .vs .now) j (c .before .loop .ys) (c .before .loop .off) (c .before .loop .cover) (c .before .loop .left) (c .before .loop .right)) q (c .before .loop .inv .2)
 
 pub reach-spec : {M : Type 1} → statement M
 reach-spec =

@@ -9,11 +9,9 @@ use native.Mathlib.Omega.{arith}
 use Prim.Native.Nat.{ℕ}
 use Rattle.engine.proofs.Given.{names-fit, sheet-is}
 
--- src/lib.rt:377:5
 draw-requires : tie.Need-draw-requires
 draw-requires c κs = search needs
 
--- src/lib.rt:378:5
 write-sheet-requires : tie.Need-write-sheet-requires
 write-sheet-requires c κs =
     let b = c .before .before .before .before .before .before .before .before .before .before .before .before .before .before .before .before .before .before .before .before .before .before .before .before .before .before .before .before .before .before .before .before .before .pre in (
@@ -23,37 +21,31 @@ write-sheet-requires c κs =
       λ (j : ℕ) l. names-fit _ _ _ _ (b .0) _ (b .1) (b .2) _ _ _ _ _ _ (c .before .before .before .before .before .before .before .before .before .before .before .before .before .before .before .draw .ensures) j (omega (arith, l)),
     )
 
--- src/lib.rt:373:1
 same-length : tie.Need-same-length
 same-length c = search needs
 
--- src/lib.rt:373:1
 same-length-2 : tie.Need-same-length-2
 same-length-2 c = search needs
 
--- src/lib.rt:373:1
 same-length-3 : tie.Need-same-length-3
 same-length-3 c = search needs
 
--- src/lib.rt:373:1
 same-length-4 : tie.Need-same-length-4
 same-length-4 c = search needs
 
--- src/lib.rt:373:1
 same-length-5 : tie.Need-same-length-5
 same-length-5 c = search needs
 
--- src/lib.rt:373:1
 same-length-6 : tie.Need-same-length-6
 same-length-6 c = search needs
 
--- src/lib.rt:373:1
 same-length-7 : tie.Need-same-length-7
 same-length-7 c = search needs
 
--- src/lib.rt:373:1
 returns : tie.Need-returns
-returns c = sheet-is _ _ _ _ (c .before .before .before .before .before .before .before .before .before .before .before .before .before .before .before .before .before .before .before .before .before .before .before .before .before .before .before .before .before .before .before .before .before .before .before .before .pre .0) _ (c .before .before .before .before .before .before .before .before .before .before .before .before .before .before .before .before .before .before .before .before .before .before .before .before .before .before .before .before .before .before .before .before .before .before .before .before .pre .1) (c .before .before .before .before .before .before .before .before .before .before .before .before .before .before .before .before .before .before .before .before .before .before .before .before .before .before .before .before .before .before .before .before .before .before .before .before .pre .2) _ _ _ _ _ _ (c .before .before .before .before .before .before .before .before .before .before .before .before .before .before .before .before .before .before .draw .ensures) _ _ (c .before .before .write-sheet .ensures)
+returns c =
+    let entry = c .before .before .before .before .before .before .before .before .before .before .before .before .before .before .before .before .before .before .before .before .before .before .before .before .before .before .before .before .before .before .before .before .before .before .before .before in
+    sheet-is _ _ _ _ (entry .pre .0) _ (entry .pre .1) (entry .pre .2) _ _ _ _ _ _ (c .before .before .before .before .before .before .before .before .before .before .before .before .before .before .before .before .before .before .draw .ensures) _ _ (c .before .before .write-sheet .ensures)
 
 pub sheet-at-spec : {M : Type 1} → statement M
 sheet-at-spec =

@@ -6,47 +6,36 @@ use Rattle.engine.proofs.start.Lts as lts
 use Rattle.arrays.proofs.three.Reads as three-reads
 use Rattle.engine.proofs.Third.{start-shows}
 
--- src/lib.rt:210:5
 three-requires : tie.Need-three-requires
 three-requires c κs = search needs
 
--- src/lib.rt:211:5
 three-requires-2 : tie.Need-three-requires-2
 three-requires-2 c κs = search needs
 
--- src/lib.rt:212:5
 three-requires-3 : tie.Need-three-requires-3
 three-requires-3 c κs = search needs
 
--- src/lib.rt:213:5
 three-requires-4 : tie.Need-three-requires-4
 three-requires-4 c κs = search needs
 
--- src/lib.rt:214:5
 three-requires-5 : tie.Need-three-requires-5
 three-requires-5 c κs = search needs
 
--- src/lib.rt:206:1
 same-length : tie.Need-same-length
 same-length c = search needs
 
--- src/lib.rt:206:1
 same-length-2 : tie.Need-same-length-2
 same-length-2 c = search needs
 
--- src/lib.rt:206:1
 same-length-3 : tie.Need-same-length-3
 same-length-3 c = search needs
 
--- src/lib.rt:206:1
 same-length-4 : tie.Need-same-length-4
 same-length-4 c = search needs
 
--- src/lib.rt:206:1
 same-length-5 : tie.Need-same-length-5
 same-length-5 c = search needs
 
--- src/lib.rt:206:1
 returns : tie.Need-returns
 returns c = start-shows _ _ _ _ _ _ _ _ _ _ _ _ _ (c .before .before .before .before .before .before .before .before .before .before .before .before .before .before .before .before .before .before .before .before .before .before .before .before .before .pre) (c .before .before .before .before .before .before .before .before .before .before .before .before .before .before .before .before .before .before .three .ensures) (c .before .before .before .before .before .before .before .before .before .before .before .before .before .before .three2 .ensures) (c .before .before .before .before .before .before .before .before .before .before .three3 .ensures) (c .before .before .before .before .before .before .three4 .ensures) (c .before .before .three5 .ensures)
 

@@ -22,47 +22,40 @@ Inv-loop ents b e vs rank k c₀ i₀ c i = (b ≤ i) × (i ≤ e) × (c + count
 abbrev μ-loop : tie.MeasureT-loop
 μ-loop ents b e vs rank k c₀ i₀ c i = e - i
 
--- src/lib.rt:60:5
 loop-holds : tie.Need-loop-holds Inv-loop μ-loop
 loop-holds c = search needs
 
--- src/lib.rt:61:37
 mul-is-before : tie.Need-mul-is-before Inv-loop μ-loop
 mul-is-before c = search needs
 
--- src/lib.rt:61:37
 shared-slice-read-is-before : tie.Need-shared-slice-read-is-before Inv-loop μ-loop
 shared-slice-read-is-before c = search needs
 
--- src/lib.rt:61:21
 is-before-requires : tie.Need-is-before-requires Inv-loop μ-loop
-is-before-requires c κs = omega (arith, c .before .before .before .before .before .before .pre .3 (c .before .before .loop .i) (omega arith) (omega arith), c .before .before .before .before .before .before .pre .2 .room)
+is-before-requires c κs =
+    let entry = c .before .before .before .before .before .before in
+    omega (arith, entry .pre .3 (c .before .before .loop .i) (omega arith) (omega arith), entry .pre .2 .room)
 
--- src/lib.rt:61:14
 one-if-requires : tie.Need-one-if-requires Inv-loop μ-loop
 one-if-requires c κs = search needs
 
--- src/lib.rt:61:9
 add-c : tie.Need-add-c Inv-loop μ-loop
 add-c c = search needs
 
--- src/lib.rt:62:9
 add-i : tie.Need-add-i Inv-loop μ-loop
 add-i c = search needs
 
--- src/lib.rt:60:5
 loop-less : tie.Need-loop-less Inv-loop μ-loop
 loop-less c = search needs
 
--- src/lib.rt:60:5
 loop-again : tie.Need-loop-again Inv-loop μ-loop
 loop-again c =
+    let entry = c .before .before .before .before .before .before .before .before in
     let v = c .before .before .before .before .loop in
-    let a = c .before .before .before .before .before .before .before .before .args in
-    let s : c .before .is-before .result ≡ mem (earlier (a .vs .now) (a .k)) (getD (a .ents .now) (v .i) 0) = c .before .is-before .ensures ∙ before-says (a .vs .now) (a .rank .now) (c .before .before .before .before .before .before .before .before .pre .2) (getD (a .ents .now) (v .i) 0) (c .before .before .before .before .before .before .before .before .pre .3 (v .i) (omega arith) (omega arith)) (a .k) (c .before .before .before .before .before .before .before .before .pre .4) in
+    let a = entry .args in
+    let s : c .before .is-before .result ≡ mem (earlier (a .vs .now) (a .k)) (getD (a .ents .now) (v .i) 0) = c .before .is-before .ensures ∙ before-says (a .vs .now) (a .rank .now) (entry .pre .2) (getD (a .ents .now) (v .i) 0) (entry .pre .3 (v .i) (omega arith) (omega arith)) (a .k) (entry .pre .4) in
     omega (arith, count-step (a .ents .now) (v .i) (a .e) (omega arith) (omega arith) (mem (earlier (a .vs .now) (a .k))), c .one-if .ensures, ap {B = ℕ} (λ (z : Bool). cond z 1 0) s)
 
--- src/lib.rt:54:1
 returns : tie.Need-returns Inv-loop μ-loop
 returns c =
     let v = c .before .loop in

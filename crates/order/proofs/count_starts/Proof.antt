@@ -23,40 +23,34 @@ Inv-loop ents b e vs rank k c₀ i₀ c i = (b ≤ i) × (i ≤ e) × (c + start
 abbrev μ-loop : tie.MeasureT-loop
 μ-loop ents b e vs rank k c₀ i₀ c i = e - i
 
--- src/lib.rt:85:5
 loop-holds : tie.Need-loop-holds Inv-loop μ-loop
 loop-holds c =
     let a = c .before .before .before .args in
     (search needs, search needs, omega (arith, around-start (a .ents .now) (a .b) (a .e) (omega arith) (omega arith) (starts (earlier (a .vs .now) (a .k)))), search needs)
 
--- src/lib.rt:86:21
 is-start-requires : tie.Need-is-start-requires Inv-loop μ-loop
-is-start-requires c κs = (search needs, search needs, search needs, c .before .before .before .before .before .pre .2, c .before .before .before .before .before .pre .3, c .before .before .before .before .before .pre .4)
+is-start-requires c κs =
+    let entry = c .before .before .before .before .before in
+    (search needs, search needs, search needs, entry .pre .2, entry .pre .3, entry .pre .4)
 
--- src/lib.rt:86:14
 one-if-requires : tie.Need-one-if-requires Inv-loop μ-loop
 one-if-requires c κs = search needs
 
--- src/lib.rt:86:9
 add-c : tie.Need-add-c Inv-loop μ-loop
 add-c c = search needs
 
--- src/lib.rt:87:9
 add-i : tie.Need-add-i Inv-loop μ-loop
 add-i c = search needs
 
--- src/lib.rt:85:5
 loop-less : tie.Need-loop-less Inv-loop μ-loop
 loop-less c = search needs
 
--- src/lib.rt:85:5
 loop-again : tie.Need-loop-again Inv-loop μ-loop
 loop-again c =
     let v = c .before .before .before .loop in
     let a = c .before .before .before .before .before .before .before .args in
     omega (arith, starts-turn (earlier (a .vs .now) (a .k)) (a .ents .now) (a .b) (a .e) (v .i) (omega arith) (omega arith) (omega arith), c .one-if .ensures, ap {B = ℕ} (λ (z : Bool). cond z 1 0) (c .before .is-start .ensures))
 
--- src/lib.rt:79:1
 returns : tie.Need-returns Inv-loop μ-loop
 returns c =
     let v = c .before .loop in

@@ -6,23 +6,18 @@ use Rattle.order.proofs.is_before.Lts as lts
 use Rattle.words.proofs.number.Reads as number-reads
 use mathlib.Core.Path.{refl}
 
--- src/lib.rt:49:9
 number-requires : tie.Need-number-requires
 number-requires c κs = search needs
 
--- src/lib.rt:50:19
 mul-number : tie.Need-mul-number
 mul-number c = search needs
 
--- src/lib.rt:50:19
 shared-slice-read-number : tie.Need-shared-slice-read-number
 shared-slice-read-number c = search needs
 
--- src/lib.rt:50:5
 number-requires-2 : tie.Need-number-requires-2
 number-requires-2 c κs = search needs
 
--- src/lib.rt:45:1
 returns : tie.Need-returns
 returns c = rw (c .number2 .ensures .0, c .before .before .number .ensures .0) refl
 

@@ -18,71 +18,61 @@ Inv-loop vs rank₀ k₀ rank k = (1 ≤ k) × (k ≤ length vs + 1) × (length 
 abbrev μ-loop : tie.MeasureT-loop
 μ-loop vs rank₀ k₀ rank k = length vs + 1 - k
 
--- src/lib.rt:31:5
 loop-holds : tie.Need-loop-holds Inv-loop μ-loop
 loop-holds c = (search needs, search needs, search needs, λ j h l. absurd (omega arith))
 
--- src/lib.rt:32:34
 sub-number : tie.Need-sub-number Inv-loop μ-loop
 sub-number c = search needs
 
--- src/lib.rt:32:31
 mul-number : tie.Need-mul-number Inv-loop μ-loop
 mul-number c = search needs
 
--- src/lib.rt:32:31
 shared-slice-read-number : tie.Need-shared-slice-read-number Inv-loop μ-loop
 shared-slice-read-number c = search needs
 
--- src/lib.rt:32:13
 number-requires : tie.Need-number-requires Inv-loop μ-loop
 number-requires c κs = search needs
 
--- src/lib.rt:33:19
 cast-rank : tie.Need-cast-rank Inv-loop μ-loop
 cast-rank c = search needs
 
--- src/lib.rt:33:9
 mul-rank : tie.Need-mul-rank Inv-loop μ-loop
 mul-rank c = search needs
 
--- src/lib.rt:33:9
 slice-write-rank : tie.Need-slice-write-rank Inv-loop μ-loop
 slice-write-rank c =
-    let l = c .before .before .before .before .before .before .args .vs .now in
+    let entry = c .before .before .before .before .before .before in
+    let l = entry .args .vs .now in
     let k = c .before .before .before .loop .k in
-    omega (arith, c .number .ensures .0, position-says (length l) l k (c .before .before .before .before .before .before .pre .2 k (omega arith) (omega arith)))
+    omega (arith, c .number .ensures .0, position-says (length l) l k (entry .pre .2 k (omega arith) (omega arith)))
 
--- src/lib.rt:34:9
 add-k : tie.Need-add-k Inv-loop μ-loop
 add-k c = search needs
 
--- src/lib.rt:31:5
 loop-less : tie.Need-loop-less Inv-loop μ-loop
 loop-less c = search needs
 
--- src/lib.rt:31:5
 loop-again : tie.Need-loop-again Inv-loop μ-loop
 loop-again c =
-    let l = c .before .before .before .before .before .before .args .vs .now in
+    let entry = c .before .before .before .before .before .before in
+    let l = entry .args .vs .now in
     let v = c .before .before .before .loop in (
       search needs,
       search needs,
       search needs,
-      rank-more l (v .rank) (omega arith) (c .before .before .before .before .before .before .pre .2) (v .k) (c .number .result) (omega arith) (omega arith) (c .number .ensures .0) (v .inv .3),
+      rank-more l (v .rank) (omega arith) (entry .pre .2) (v .k) (c .number .result) (omega arith) (omega arith) (c .number .ensures .0) (v .inv .3),
     )
 
--- src/lib.rt:26:1
 same-length : tie.Need-same-length Inv-loop μ-loop
 same-length c = search needs
 
--- src/lib.rt:26:1
 returns : tie.Need-returns Inv-loop μ-loop
 returns c =
-    let l = c .before .before .before .before .args .vs .now in
+    let entry = c .before .before .before .before in
+    let l = entry .args .vs .now in
     let v = c .before .loop in
     let e : v .k ≡ length l + 1 = omega arith in
-    ranked l (v .rank) (omega arith) (c .before .before .before .before .pre .2) (rw e at (v .inv .3))
+    ranked l (v .rank) (omega arith) (entry .pre .2) (rw e at (v .inv .3))
 
 pub ranks-spec : {M : Type 1} → statement M
 ranks-spec =

@@ -21,51 +21,45 @@ Inv-loop ents b e vs rank k i₀ i = (b ≤ i) × (i ≤ e) × (anyOf (mem (late
 abbrev μ-loop : tie.MeasureT-loop
 μ-loop ents b e vs rank k i₀ i = e - i
 
--- src/lib.rt:98:5
 loop-holds : tie.Need-loop-holds Inv-loop μ-loop
 loop-holds c = search needs
 
--- src/lib.rt:99:29
 mul-is-before : tie.Need-mul-is-before Inv-loop μ-loop
 mul-is-before c = search needs
 
--- src/lib.rt:99:29
 shared-slice-read-is-before : tie.Need-shared-slice-read-is-before Inv-loop μ-loop
 shared-slice-read-is-before c = search needs
 
--- src/lib.rt:99:38
 add-is-before : tie.Need-add-is-before Inv-loop μ-loop
 add-is-before c = search needs
 
--- src/lib.rt:99:13
 is-before-requires : tie.Need-is-before-requires Inv-loop μ-loop
-is-before-requires c κs = omega (arith, c .before .before .before .before .before .before .pre .3 (c .before .before .loop .i) (omega arith) (omega arith), c .before .before .before .before .before .before .pre .2 .room)
+is-before-requires c κs =
+    let entry = c .before .before .before .before .before .before in
+    omega (arith, entry .pre .3 (c .before .before .loop .i) (omega arith) (omega arith), entry .pre .2 .room)
 
--- src/lib.rt:100:13
 returns : tie.Need-returns Inv-loop μ-loop
 returns c =
+    let entry = c .before .before .before .before .before .before .before .before in
     let v = c .before .before .before .before .loop in
-    let a = c .before .before .before .before .before .before .before .before .args in
-    let s : not (c .before .is-before .result) ≡ mem (later (a .vs .now) (a .k)) (getD (a .ents .now) (v .i) 0) = ap not (c .before .is-before .ensures) ∙ after-says (a .vs .now) (a .rank .now) (c .before .before .before .before .before .before .before .before .pre .2) (getD (a .ents .now) (v .i) 0) (c .before .before .before .before .before .before .before .before .pre .3 (v .i) (omega arith) (omega arith)) (a .k) (c .before .before .before .before .before .before .before .before .pre .4) in
+    let a = entry .args in
+    let s : not (c .before .is-before .result) ≡ mem (later (a .vs .now) (a .k)) (getD (a .ents .now) (v .i) 0) = ap not (c .before .is-before .ensures) ∙ after-says (a .vs .now) (a .rank .now) (entry .pre .2) (getD (a .ents .now) (v .i) 0) (entry .pre .3 (v .i) (omega arith) (omega arith)) (a .k) (entry .pre .4) in
     sym (sym (v .inv .2) ∙ any-step (a .ents .now) (v .i) (a .e) (omega arith) (omega arith) (mem (later (a .vs .now) (a .k))) ∙ rw (← s, c .if1 .taken) refl)
 
--- src/lib.rt:102:9
 add-i : tie.Need-add-i Inv-loop μ-loop
 add-i c = search needs
 
--- src/lib.rt:98:5
 loop-less : tie.Need-loop-less Inv-loop μ-loop
 loop-less c = search needs
 
--- src/lib.rt:98:5
 loop-again : tie.Need-loop-again Inv-loop μ-loop
 loop-again c =
+    let entry = c .before .before .before .before .before .before .before .before in
     let v = c .before .before .before .before .loop in
-    let a = c .before .before .before .before .before .before .before .before .args in
-    let s : not (c .before .is-before .result) ≡ mem (later (a .vs .now) (a .k)) (getD (a .ents .now) (v .i) 0) = ap not (c .before .is-before .ensures) ∙ after-says (a .vs .now) (a .rank .now) (c .before .before .before .before .before .before .before .before .pre .2) (getD (a .ents .now) (v .i) 0) (c .before .before .before .before .before .before .before .before .pre .3 (v .i) (omega arith) (omega arith)) (a .k) (c .before .before .before .before .before .before .before .before .pre .4) in
+    let a = entry .args in
+    let s : not (c .before .is-before .result) ≡ mem (later (a .vs .now) (a .k)) (getD (a .ents .now) (v .i) 0) = ap not (c .before .is-before .ensures) ∙ after-says (a .vs .now) (a .rank .now) (entry .pre .2) (getD (a .ents .now) (v .i) 0) (entry .pre .3 (v .i) (omega arith) (omega arith)) (a .k) (entry .pre .4) in
     (search needs, search needs, sym (any-step (a .ents .now) (v .i) (a .e) (omega arith) (omega arith) (mem (later (a .vs .now) (a .k))) ∙ rw (← s, c .if1 .left) refl) ∙ v .inv .2)
 
--- src/lib.rt:93:1
 returns-2 : tie.Need-returns-2 Inv-loop μ-loop
 returns-2 c =
     let v = c .before .loop in

@@ -6,37 +6,29 @@ use Rattle.rings.proofs.after.Lts as lts
 use native.Mathlib.Omega.{arith}
 use Rattle.rings.proofs.Turns.{around-after, around-first}
 
--- src/lib.rt:96:8
 add-if1 : tie.Need-add-if1
 add-if1 c = search needs
 
--- src/lib.rt:97:21
 add-result : tie.Need-add-result
 add-result c = search needs
 
--- src/lib.rt:97:16
 mul-result : tie.Need-mul-result
 mul-result c = search needs
 
--- src/lib.rt:97:16
 shared-slice-read-result : tie.Need-shared-slice-read-result
 shared-slice-read-result c = search needs
 
--- src/lib.rt:97:9
 returns : tie.Need-returns
 returns c =
     let a = c .before .before .args in
     around-after (a .ents .now) (a .b) (a .e) (a .i) (omega arith) (omega arith) (omega arith) (omega arith)
 
--- src/lib.rt:99:5
 mul-result-2 : tie.Need-mul-result-2
 mul-result-2 c = search needs
 
--- src/lib.rt:99:5
 shared-slice-read-result-2 : tie.Need-shared-slice-read-result-2
 shared-slice-read-result-2 c = search needs
 
--- src/lib.rt:92:1
 returns-2 : tie.Need-returns-2
 returns-2 c =
     let a = c .before .before .args in

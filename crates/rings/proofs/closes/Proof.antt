@@ -9,30 +9,25 @@ use native.Mathlib.Omega.{arith}
 use mathlib.Core.Path.{_≡_, refl, sym, ap, _∙_}
 use Rattle.rings.proofs.Turns.{around-here}
 
--- src/lib.rt:145:24
 mul-is-after : tie.Need-mul-is-after
 mul-is-after c = search needs
 
--- src/lib.rt:145:24
 shared-slice-read-is-after : tie.Need-shared-slice-read-is-after
 shared-slice-read-is-after c = search needs
 
--- src/lib.rt:145:33
 after-requires : tie.Need-after-requires
 after-requires c κs = search needs
 
--- src/lib.rt:145:55
 cast-is-after : tie.Need-cast-is-after
 cast-is-after c = search needs
 
--- src/lib.rt:145:5
 is-after-requires : tie.Need-is-after-requires
 is-after-requires c κs = search needs
 
--- src/lib.rt:141:1
 returns : tie.Need-returns
 returns c =
-    rw (around-here (c .before .before .before .before .before .args .ents .now) (c .before .before .before .before .before .args .b) (c .before .before .before .before .before .args .e) (c .before .before .before .before .before .args .i) (omega arith) (omega arith) (omega arith), ← (c .before .after .ensures)) (c .is-after .ensures)
+    let entry = c .before .before .before .before .before in
+    rw (around-here (entry .args .ents .now) (entry .args .b) (entry .args .e) (entry .args .i) (omega arith) (omega arith) (omega arith), ← (c .before .after .ensures)) (c .is-after .ensures)
 
 pub closes-spec : {M : Type 1} → statement M
 closes-spec =

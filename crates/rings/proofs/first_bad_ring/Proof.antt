@@ -31,93 +31,78 @@ Inv-names ents at n u₀ u = (u ≤ n) × (first 0 n (λ k. not (ringRule (held 
 abbrev μ-names : tie.MeasureT-names
 μ-names ents at n u₀ u = n - u
 
--- src/lib.rt:73:13
 sub-n : tie.Need-sub-n Inv-loop μ-loop Inv-names μ-names
 sub-n c = search needs
 
--- src/lib.rt:75:5
 names-holds : tie.Need-names-holds Inv-loop μ-loop Inv-names μ-names
 names-holds c = (search needs, rw sub-zero refl)
 
--- src/lib.rt:79:34
 add-number : tie.Need-add-number Inv-loop μ-loop Inv-names μ-names
 add-number c = search needs
 
--- src/lib.rt:79:31
 mul-number : tie.Need-mul-number Inv-loop μ-loop Inv-names μ-names
 mul-number c = search needs
 
--- src/lib.rt:79:31
 shared-slice-read-number : tie.Need-shared-slice-read-number Inv-loop μ-loop Inv-names μ-names
 shared-slice-read-number c = search needs
 
--- src/lib.rt:79:13
 number-requires : tie.Need-number-requires Inv-loop μ-loop Inv-names μ-names
 number-requires c κs = search needs
 
--- src/lib.rt:80:35
 mul-number-2 : tie.Need-mul-number-2 Inv-loop μ-loop Inv-names μ-names
 mul-number-2 c = search needs
 
--- src/lib.rt:80:35
 shared-slice-read-number-2 : tie.Need-shared-slice-read-number-2 Inv-loop μ-loop Inv-names μ-names
 shared-slice-read-number-2 c = search needs
 
--- src/lib.rt:80:13
 number-requires-2 : tie.Need-number-requires-2 Inv-loop μ-loop Inv-names μ-names
 number-requires-2 c κs = search needs
 
--- src/lib.rt:81:9
 loop-holds : tie.Need-loop-holds Inv-loop μ-loop Inv-names μ-names
 loop-holds c =
+    let entry = c .before .before .before .before .before .before .before .before in
     let u = c .before .before .before .before .before .names .u in
-    let C = c .before .before .before .before .before .before .before .before .pre .0 in
+    let C = entry .pre .0 in
     let le : c .number2 .result ≤ c .before .before .number .result = omega (arith, C .rise u (omega arith), c .before .before .number .ensures, c .number2 .ensures) in
-    (le, ring-start (c .before .before .before .before .before .before .before .before .args .at .now) (c .before .before .before .before .before .before .before .before .args .ents .now) u (c .number2 .result) (c .before .before .number .result) (omega arith) (c .number2 .ensures .0) (c .before .before .number .ensures .0) le (omega (arith, C .within (u + 1) (omega arith), c .before .before .number .ensures)))
+    (le, ring-start (entry .args .at .now) (entry .args .ents .now) u (c .number2 .result) (c .before .before .number .result) (omega arith) (c .number2 .ensures .0) (c .before .before .number .ensures .0) le (omega (arith, C .within (u + 1) (omega arith), c .before .before .number .ensures)))
 
--- src/lib.rt:82:36
 mul-breaks : tie.Need-mul-breaks Inv-loop μ-loop Inv-names μ-names
 mul-breaks c = search needs
 
--- src/lib.rt:82:36
 shared-slice-read-breaks : tie.Need-shared-slice-read-breaks Inv-loop μ-loop Inv-names μ-names
 shared-slice-read-breaks c = omega (arith, c .before .before .before .before .before .before .before .before .before .before .before .pre .0 .within (c .before .before .before .before .before .before .before .before .names .u + 1) (omega arith), c .before .before .before .before .before .number .ensures)
 
--- src/lib.rt:82:16
 breaks-requires : tie.Need-breaks-requires Inv-loop μ-loop Inv-names μ-names
 breaks-requires c κs = search needs
 
--- src/lib.rt:85:13
 add-i : tie.Need-add-i Inv-loop μ-loop Inv-names μ-names
 add-i c = search needs
 
--- src/lib.rt:81:9
 loop-less : tie.Need-loop-less Inv-loop μ-loop Inv-names μ-names
 loop-less c = search needs
 
--- src/lib.rt:81:9
 loop-again : tie.Need-loop-again Inv-loop μ-loop Inv-names μ-names
 loop-again c =
+    let entry = c .before .before .before .before .before .before .before .before .before .before .before .before .before in
+    let number = c .before .before .before .before .before .before .before .number in
+    let loop = c .before .before .before .before .loop in
     let u = c .before .before .before .before .before .before .before .before .before .before .names .u in
-    let C = c .before .before .before .before .before .before .before .before .before .before .before .before .before .pre .0 in
-    (search needs, ring-pass (c .before .before .before .before .before .before .before .before .before .before .before .before .before .args .at .now) (c .before .before .before .before .before .before .before .before .before .before .before .before .before .args .ents .now) u (c .before .before .before .before .before .before .before .number .result) (c .before .before .before .before .loop .i) (omega arith) (omega (arith, C .within (u + 1) (omega arith), c .before .before .before .before .before .before .before .number .ensures)) (c .before .before .before .before .loop .inv .1) (c .before .breaks .result) (c .before .breaks .ensures) (c .if2 .left))
+    let C = entry .pre .0 in
+    (search needs, ring-pass (entry .args .at .now) (entry .args .ents .now) u (number .result) (loop .i) (omega arith) (omega (arith, C .within (u + 1) (omega arith), number .ensures)) (loop .inv .1) (c .before .breaks .result) (c .before .breaks .ensures) (c .if2 .left))
 
--- src/lib.rt:87:9
 add-u : tie.Need-add-u Inv-loop μ-loop Inv-names μ-names
 add-u c = search needs
 
--- src/lib.rt:75:5
 names-less : tie.Need-names-less Inv-loop μ-loop Inv-names μ-names
 names-less c = search needs
 
--- src/lib.rt:75:5
 names-again : tie.Need-names-again Inv-loop μ-loop Inv-names μ-names
 names-again c =
+    let entry = c .before .before .before .before .before .before .before .before .before .before in
     let v = c .before .before .before .before .before .before .before .names in
-    let n = length (c .before .before .before .before .before .before .before .before .before .before .args .at .now) - 1 in
-    (search needs, v .inv .1 ∙ first-next _ (v .u) n (omega arith) (ring-done (c .before .before .before .before .before .before .before .before .before .before .args .at .now) (c .before .before .before .before .before .before .before .before .before .before .args .ents .now) (v .u) (c .before .before .before .before .number .result) (c .before .loop .i) (omega arith) (c .before .loop .inv .1)))
+    let n = length (entry .args .at .now) - 1 in
+    (search needs, v .inv .1 ∙ first-next _ (v .u) n (omega arith) (ring-done (entry .args .at .now) (entry .args .ents .now) (v .u) (c .before .before .before .before .number .result) (c .before .loop .i) (omega arith) (c .before .loop .inv .1)))
 
--- src/lib.rt:69:1
 returns : tie.Need-returns Inv-loop μ-loop Inv-names μ-names
 returns c =
     let v = c .before .names in
@@ -125,13 +110,15 @@ returns c =
     let q : n ≡ v .u = omega arith in
     sym (v .inv .1 ∙ first-end _ (v .u) n (omega arith) ∙ sym q)
 
--- src/lib.rt:69:1
 returns-2 : tie.Need-returns-2 Inv-loop μ-loop Inv-names μ-names
 returns-2 c =
+    let entry = c .before .before .before .before .before .before .before .before .before .before .before .before .before in
+    let number = c .before .before .before .before .before .before .before .number in
+    let loop = c .before .before .before .before .loop in
     let v = c .before .before .before .before .before .before .before .before .before .before .names in
-    let C = c .before .before .before .before .before .before .before .before .before .before .before .before .before .pre .0 in
-    let n = length (c .before .before .before .before .before .before .before .before .before .before .before .before .before .args .at .now) - 1 in
-    sym (v .inv .1 ∙ first-here _ (v .u) n (omega arith) (ring-fault (c .before .before .before .before .before .before .before .before .before .before .before .before .before .args .at .now) (c .before .before .before .before .before .before .before .before .before .before .before .before .before .args .ents .now) (v .u) (c .before .before .before .before .before .before .before .number .result) (c .before .before .before .before .loop .i) (omega arith) (omega (arith, C .within (v .u + 1) (omega arith), c .before .before .before .before .before .before .before .number .ensures)) (c .before .before .before .before .loop .inv .1) (c .before .breaks .result) (c .before .breaks .ensures) (c .if2 .taken)))
+    let C = entry .pre .0 in
+    let n = length (entry .args .at .now) - 1 in
+    sym (v .inv .1 ∙ first-here _ (v .u) n (omega arith) (ring-fault (entry .args .at .now) (entry .args .ents .now) (v .u) (number .result) (loop .i) (omega arith) (omega (arith, C .within (v .u + 1) (omega arith), number .ensures)) (loop .inv .1) (c .before .breaks .result) (c .before .breaks .ensures) (c .if2 .taken)))
 
 pub first-bad-ring-spec : {M : Type 1} → statement M
 first-bad-ring-spec =

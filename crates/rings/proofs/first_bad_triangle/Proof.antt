@@ -31,90 +31,78 @@ Inv-names ents at n u₀ u = (u ≤ n) × (first 0 n (λ k. not (triangleRule (h
 abbrev μ-names : tie.MeasureT-names
 μ-names ents at n u₀ u = n - u
 
--- src/lib.rt:153:13
 sub-n : tie.Need-sub-n Inv-loop μ-loop Inv-names μ-names
 sub-n c = search needs
 
--- src/lib.rt:155:5
 names-holds : tie.Need-names-holds Inv-loop μ-loop Inv-names μ-names
 names-holds c = (search needs, rw sub-zero refl)
 
--- src/lib.rt:159:31
 mul-number : tie.Need-mul-number Inv-loop μ-loop Inv-names μ-names
 mul-number c = search needs
 
--- src/lib.rt:159:31
 shared-slice-read-number : tie.Need-shared-slice-read-number Inv-loop μ-loop Inv-names μ-names
 shared-slice-read-number c = search needs
 
--- src/lib.rt:159:13
 number-requires : tie.Need-number-requires Inv-loop μ-loop Inv-names μ-names
 number-requires c κs = search needs
 
--- src/lib.rt:160:34
 add-number : tie.Need-add-number Inv-loop μ-loop Inv-names μ-names
 add-number c = search needs
 
--- src/lib.rt:160:31
 mul-number-2 : tie.Need-mul-number-2 Inv-loop μ-loop Inv-names μ-names
 mul-number-2 c = search needs
 
--- src/lib.rt:160:31
 shared-slice-read-number-2 : tie.Need-shared-slice-read-number-2 Inv-loop μ-loop Inv-names μ-names
 shared-slice-read-number-2 c = search needs
 
--- src/lib.rt:160:13
 number-requires-2 : tie.Need-number-requires-2 Inv-loop μ-loop Inv-names μ-names
 number-requires-2 c κs = search needs
 
--- src/lib.rt:162:9
 loop-holds : tie.Need-loop-holds Inv-loop μ-loop Inv-names μ-names
 loop-holds c =
+    let entry = c .before .before .before .before .before .before .before .before in
     let u = c .before .before .before .before .before .names .u in
-    let C = c .before .before .before .before .before .before .before .before .pre .0 in
+    let C = entry .pre .0 in
     let le : c .before .before .number .result ≤ c .number2 .result = omega (arith, C .rise u (omega arith), c .before .before .number .ensures, c .number2 .ensures) in
-    (search needs, le, triangle-start (c .before .before .before .before .before .before .before .before .args .at .now) (c .before .before .before .before .before .before .before .before .args .ents .now) u (c .before .before .number .result) (c .number2 .result) (omega arith) (c .before .before .number .ensures .0) (c .number2 .ensures .0) le (omega (arith, C .within (u + 1) (omega arith), c .number2 .ensures)))
+    (search needs, le, triangle-start (entry .args .at .now) (entry .args .ents .now) u (c .before .before .number .result) (c .number2 .result) (omega arith) (c .before .before .number .ensures .0) (c .number2 .ensures .0) le (omega (arith, C .within (u + 1) (omega arith), c .number2 .ensures)))
 
--- src/lib.rt:163:17
 closes-requires : tie.Need-closes-requires Inv-loop μ-loop Inv-names μ-names
 closes-requires c κs =
     let u = c .before .before .before .before .before .before .before .names .u in
     let C = c .before .before .before .before .before .before .before .before .before .before .pre .0 in
     (C, search needs, search needs, search needs, omega (arith, C .within (u + 1) (omega arith), c .before .before .number2 .ensures), search needs)
 
--- src/lib.rt:166:13
 add-i : tie.Need-add-i Inv-loop μ-loop Inv-names μ-names
 add-i c = search needs
 
--- src/lib.rt:162:9
 loop-less : tie.Need-loop-less Inv-loop μ-loop Inv-names μ-names
 loop-less c = search needs
 
--- src/lib.rt:162:9
 loop-again : tie.Need-loop-again Inv-loop μ-loop Inv-names μ-names
 loop-again c =
+    let entry = c .before .before .before .before .before .before .before .before .before .before .before .before in
+    let number2 = c .before .before .before .before .number2 in
+    let loop = c .before .before .before .loop in
     let u = c .before .before .before .before .before .before .before .before .before .names .u in
-    let C = c .before .before .before .before .before .before .before .before .before .before .before .before .pre .0 in
-    (search needs, search needs, triangle-pass (c .before .before .before .before .before .before .before .before .before .before .before .before .args .at .now) (c .before .before .before .before .before .before .before .before .before .before .before .before .args .ents .now) u (c .before .before .before .before .before .before .number .result) (c .before .before .before .before .number2 .result) (c .before .before .before .loop .i) (omega arith) (omega arith) (omega (arith, C .within (u + 1) (omega arith), c .before .before .before .before .number2 .ensures)) (c .before .before .before .loop .inv .2) (c .before .closes .result) (c .before .closes .ensures) (not-false _ (c .if2 .left)))
+    let C = entry .pre .0 in
+    (search needs, search needs, triangle-pass (entry .args .at .now) (entry .args .ents .now) u (c .before .before .before .before .before .before .number .result) (number2 .result) (loop .i) (omega arith) (omega arith) (omega (arith, C .within (u + 1) (omega arith), number2 .ensures)) (loop .inv .2) (c .before .closes .result) (c .before .closes .ensures) (not-false _ (c .if2 .left)))
 
--- src/lib.rt:168:9
 add-u : tie.Need-add-u Inv-loop μ-loop Inv-names μ-names
 add-u c = search needs
 
--- src/lib.rt:155:5
 names-less : tie.Need-names-less Inv-loop μ-loop Inv-names μ-names
 names-less c = search needs
 
--- src/lib.rt:155:5
 names-again : tie.Need-names-again Inv-loop μ-loop Inv-names μ-names
 names-again c =
+    let entry = c .before .before .before .before .before .before .before .before .before .before in
+    let number = c .before .before .before .before .number in
     let v = c .before .before .before .before .before .before .before .names in
-    let C = c .before .before .before .before .before .before .before .before .before .before .pre .0 in
-    let n = length (c .before .before .before .before .before .before .before .before .before .before .args .at .now) - 1 in
-    let le : c .before .before .before .before .number .result ≤ c .before .before .number2 .result = omega (arith, C .rise (v .u) (omega arith), c .before .before .before .before .number .ensures, c .before .before .number2 .ensures) in
-    (search needs, v .inv .1 ∙ first-next _ (v .u) n (omega arith) (triangle-done (c .before .before .before .before .before .before .before .before .before .before .args .at .now) (c .before .before .before .before .before .before .before .before .before .before .args .ents .now) (v .u) (c .before .before .before .before .number .result) (c .before .before .number2 .result) (c .before .loop .i) (omega arith) le (omega (arith, C .within (v .u + 1) (omega arith), c .before .before .number2 .ensures)) (c .before .loop .inv .2)))
+    let C = entry .pre .0 in
+    let n = length (entry .args .at .now) - 1 in
+    let le : number .result ≤ c .before .before .number2 .result = omega (arith, C .rise (v .u) (omega arith), number .ensures, c .before .before .number2 .ensures) in
+    (search needs, v .inv .1 ∙ first-next _ (v .u) n (omega arith) (triangle-done (entry .args .at .now) (entry .args .ents .now) (v .u) (number .result) (c .before .before .number2 .result) (c .before .loop .i) (omega arith) le (omega (arith, C .within (v .u + 1) (omega arith), c .before .before .number2 .ensures)) (c .before .loop .inv .2)))
 
--- src/lib.rt:149:1
 returns : tie.Need-returns Inv-loop μ-loop Inv-names μ-names
 returns c =
     let v = c .before .names in
@@ -122,13 +110,15 @@ returns c =
     let q : n ≡ v .u = omega arith in
     sym (v .inv .1 ∙ first-end _ (v .u) n (omega arith) ∙ sym q)
 
--- src/lib.rt:149:1
 returns-2 : tie.Need-returns-2 Inv-loop μ-loop Inv-names μ-names
 returns-2 c =
+    let entry = c .before .before .before .before .before .before .before .before .before .before .before .before in
+    let number2 = c .before .before .before .before .number2 in
+    let loop = c .before .before .before .loop in
     let v = c .before .before .before .before .before .before .before .before .before .names in
-    let C = c .before .before .before .before .before .before .before .before .before .before .before .before .pre .0 in
-    let n = length (c .before .before .before .before .before .before .before .before .before .before .before .before .args .at .now) - 1 in
-    sym (v .inv .1 ∙ first-here _ (v .u) n (omega arith) (triangle-fault (c .before .before .before .before .before .before .before .before .before .before .before .before .args .at .now) (c .before .before .before .before .before .before .before .before .before .before .before .before .args .ents .now) (v .u) (c .before .before .before .before .before .before .number .result) (c .before .before .before .before .number2 .result) (c .before .before .before .loop .i) (omega arith) (omega arith) (omega (arith, C .within (v .u + 1) (omega arith), c .before .before .before .before .number2 .ensures)) (c .before .before .before .loop .inv .2) (c .before .closes .result) (c .before .closes .ensures) (not-true _ (c .if2 .taken))))
+    let C = entry .pre .0 in
+    let n = length (entry .args .at .now) - 1 in
+    sym (v .inv .1 ∙ first-here _ (v .u) n (omega arith) (triangle-fault (entry .args .at .now) (entry .args .ents .now) (v .u) (c .before .before .before .before .before .before .number .result) (number2 .result) (loop .i) (omega arith) (omega arith) (omega (arith, C .within (v .u + 1) (omega arith), number2 .ensures)) (loop .inv .2) (c .before .closes .result) (c .before .closes .ensures) (not-true _ (c .if2 .taken))))
 
 pub first-bad-triangle-spec : {M : Type 1} → statement M
 first-bad-triangle-spec =

@@ -20,19 +20,15 @@ Inv-loop ents i e a j₀ j = (i ≤ j) × (j ≤ e) × (mem (slice j e ents) a �
 abbrev μ-loop : tie.MeasureT-loop
 μ-loop ents i e a j₀ j = e - j
 
--- src/lib.rt:41:5
 loop-holds : tie.Need-loop-holds Inv-loop μ-loop
 loop-holds c = search needs
 
--- src/lib.rt:42:17
 mul-if1 : tie.Need-mul-if1 Inv-loop μ-loop
 mul-if1 c = search needs
 
--- src/lib.rt:42:17
 shared-slice-read-if1 : tie.Need-shared-slice-read-if1 Inv-loop μ-loop
 shared-slice-read-if1 c = search needs
 
--- src/lib.rt:43:13
 returns : tie.Need-returns Inv-loop μ-loop
 returns c =
     let v = c .before .before .before .loop in
@@ -40,15 +36,12 @@ returns c =
     let l = a .ents .now in
     sym (sym (v .inv .2) ∙ mem-step l (v .j) (a .e) (omega arith) (omega arith) (a .a) ∙ rw (eq-eqb (a .a) (getD l (v .j) 0) (c .if1 .taken)) refl)
 
--- src/lib.rt:45:9
 add-j : tie.Need-add-j Inv-loop μ-loop
 add-j c = search needs
 
--- src/lib.rt:41:5
 loop-less : tie.Need-loop-less Inv-loop μ-loop
 loop-less c = search needs
 
--- src/lib.rt:41:5
 loop-again : tie.Need-loop-again Inv-loop μ-loop
 loop-again c =
     let v = c .before .before .before .loop in
@@ -59,7 +52,6 @@ loop-again c =
       sym (mem-step l (v .j) (a .e) (omega arith) (omega arith) (a .a) ∙ rw (ne-eqb (a .a) (getD l (v .j) 0) (c .if1 .left)) refl) ∙ v .inv .2,
     )
 
--- src/lib.rt:36:1
 returns-2 : tie.Need-returns-2 Inv-loop μ-loop
 returns-2 c =
     let v = c .before .loop in

@@ -19,32 +19,26 @@ Inv-loop ents b e a c i₀ i = (b ≤ i) × (i ≤ e) × (next a c (drop (i - b)
 abbrev μ-loop : tie.MeasureT-loop
 μ-loop ents b e a c i₀ i = e - i
 
--- src/lib.rt:119:5
 loop-holds : tie.Need-loop-holds Inv-loop μ-loop
 loop-holds c =
     let a = c .before .args in
     (search needs, search needs, around-start (a .ents .now) (a .b) (a .e) (omega arith) (omega arith) (next (a .a) (a .c)))
 
--- src/lib.rt:120:12
 linked-requires : tie.Need-linked-requires Inv-loop μ-loop
 linked-requires c κs = search needs
 
--- src/lib.rt:121:13
 returns : tie.Need-returns Inv-loop μ-loop
 returns c =
     let v = c .before .before .before .loop in
     let a = c .before .before .before .before .before .args in
     sym (sym (v .inv .2) ∙ next-turn (a .ents .now) (a .b) (a .e) (v .i) (omega arith) (omega arith) (omega arith) (a .a) (a .c) ∙ rw (← (c .before .linked .ensures), c .if1 .taken) refl)
 
--- src/lib.rt:123:9
 add-i : tie.Need-add-i Inv-loop μ-loop
 add-i c = search needs
 
--- src/lib.rt:119:5
 loop-less : tie.Need-loop-less Inv-loop μ-loop
 loop-less c = search needs
 
--- src/lib.rt:119:5
 loop-again : tie.Need-loop-again Inv-loop μ-loop
 loop-again c =
     let v = c .before .before .before .loop in
@@ -54,7 +48,6 @@ loop-again c =
       sym (next-turn (a .ents .now) (a .b) (a .e) (v .i) (omega arith) (omega arith) (omega arith) (a .a) (a .c) ∙ rw (← (c .before .linked .ensures), c .if1 .left) refl) ∙ v .inv .2,
     )
 
--- src/lib.rt:114:1
 returns-2 : tie.Need-returns-2 Inv-loop μ-loop
 returns-2 c =
     let v = c .before .loop in

@@ -11,25 +11,20 @@ use lib.Dec.{eqb}
 use borrow.Author.Tests.{eq-eqb, ne-eqb}
 use Rattle.rings.proofs.Turns.{here-not, here-is}
 
--- src/lib.rt:107:8
 mul-if1 : tie.Need-mul-if1
 mul-if1 c = search needs
 
--- src/lib.rt:107:8
 shared-slice-read-if1 : tie.Need-shared-slice-read-if1
 shared-slice-read-if1 c = search needs
 
--- src/lib.rt:108:9
 returns : tie.Need-returns
 returns c =
     let a = c .before .before .before .args in
     here-not (a .ents .now) (a .b) (a .e) (a .i) (omega arith) (omega arith) (omega arith) (a .a) _ (c .if1 .taken)
 
--- src/lib.rt:110:5
 after-requires : tie.Need-after-requires
 after-requires c κs = search needs
 
--- src/lib.rt:103:1
 returns-2 : tie.Need-returns-2
 returns-2 c =
     let a = c .before .before .before .before .args in

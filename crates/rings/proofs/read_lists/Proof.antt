@@ -15,38 +15,37 @@ use Rattle.block.specs.Layout.{entries}
 use Rattle.words.proofs.Numbers.{words-length}
 use Rattle.rings.proofs.Read.{read-lists, read-cuts, degrees-count}
 
--- src/lib.rt:199:5
 starts-requires : tie.Need-starts-requires
-starts-requires c κs = (omega (arith, degrees-count (c .before .before .before .before .before .args .s .now) (c .before .before .before .before .before .args .ds .now) (c .before .before .before .before .before .pre .4)), omega (arith, c .before .before .before .before .before .pre .5))
+starts-requires c κs =
+    let entry = c .before .before .before .before .before in
+    (omega (arith, degrees-count (entry .args .s .now) (entry .args .ds .now) (entry .pre .4)), omega (arith, entry .pre .5))
 
--- src/lib.rt:200:22
 lists-at-requires : tie.Need-lists-at-requires
 lists-at-requires c κs = search needs
 
--- src/lib.rt:200:36
 entries-requires : tie.Need-entries-requires
 entries-requires c κs = search needs
 
--- src/lib.rt:200:5
 unpack-requires : tie.Need-unpack-requires
 unpack-requires c κs = search needs
 
--- src/lib.rt:195:1
 same-length : tie.Need-same-length
 same-length c = search needs
 
--- src/lib.rt:195:1
 same-length-2 : tie.Need-same-length-2
 same-length-2 c = search needs
 
--- src/lib.rt:195:1
 returns : tie.Need-returns
 returns c =
-    let n = c .before .before .before .before .before .before .before .before .before .before .before .before .before .before .args .b .n in
-    let m : c .before .before .before .before .entries .result ≡ entries n = c .before .before .before .before .entries .ensures in
-    let room : n < length (c .before .before .before .before .before .before .before .before .starts .last .1 .0) = omega (arith, c .before .before .before .before .before .before .before .at .given) in
-    let args-are = (read-lists (c .before .before .before .before .before .before .before .before .before .before .before .before .before .before .args .s .now) (c .before .before .before .before .before .before .before .before .starts .last .1 .0) (c .before .before .unpack .last .1 .1 .1 .0) (c .before .before .before .before .before .before .before .before .before .before .before .before .before .before .args .ds .now) n (c .before .before .before .before .before .lists-at .result) (c .before .before .before .before .before .before .before .before .before .before .before .before .before .before .pre .0) (c .before .before .before .before .before .lists-at .ensures) (c .before .before .before .before .before .before .before .before .before .before .before .before .before .before .pre .4) (c .before .before .before .before .before .before .before .before .before .before .before .before .before .before .pre .5) room (c .before .before .before .before .before .before .before .before .starts .ensures) (rw m at (c .before .before .unpack .ensures))) in
-    (args-are, read-cuts (c .before .before .before .before .before .before .before .before .before .before .before .before .before .before .args .s .now) (c .before .before .before .before .before .before .before .before .starts .last .1 .0) (c .before .before .unpack .last .1 .1 .1 .0) (c .before .before .before .before .before .before .before .before .before .before .before .before .before .before .args .ds .now) n (c .before .before .before .before .before .lists-at .result) (c .before .before .before .before .before .before .before .before .before .before .before .before .before .before .pre .0) (c .before .before .before .before .before .lists-at .ensures) (c .before .before .before .before .before .before .before .before .before .before .before .before .before .before .pre .4) (c .before .before .before .before .before .before .before .before .before .before .before .before .before .before .pre .5) room (c .before .before .before .before .before .before .before .before .starts .ensures) (rw m at (c .before .before .unpack .ensures)))
+    let entry = c .before .before .before .before .before .before .before .before .before .before .before .before .before .before in
+    let starts = c .before .before .before .before .before .before .before .before .starts in
+    let lists-at = c .before .before .before .before .before .lists-at in
+    let the-entries = c .before .before .before .before .entries in
+    let n = entry .args .b .n in
+    let m : the-entries .result ≡ entries n = the-entries .ensures in
+    let room : n < length (starts .last .1 .0) = omega (arith, c .before .before .before .before .before .before .before .at .given) in
+    let args-are = (read-lists (entry .args .s .now) (starts .last .1 .0) (c .before .before .unpack .last .1 .1 .1 .0) (entry .args .ds .now) n (lists-at .result) (entry .pre .0) (lists-at .ensures) (entry .pre .4) (entry .pre .5) room (starts .ensures) (rw m at (c .before .before .unpack .ensures))) in
+    (args-are, read-cuts (entry .args .s .now) (starts .last .1 .0) (c .before .before .unpack .last .1 .1 .1 .0) (entry .args .ds .now) n (lists-at .result) (entry .pre .0) (lists-at .ensures) (entry .pre .4) (entry .pre .5) room (starts .ensures) (rw m at (c .before .before .unpack .ensures)))
 
 pub read-lists-spec : {M : Type 1} → statement M
 read-lists-spec =

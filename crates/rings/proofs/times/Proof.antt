@@ -19,42 +19,33 @@ Inv-loop ents i e a c₀ j₀ c j = (i ≤ j) × (j ≤ e) × (c + count (eqb a)
 abbrev μ-loop : tie.MeasureT-loop
 μ-loop ents i e a c₀ j₀ c j = e - j
 
--- src/lib.rt:28:5
 loop-holds : tie.Need-loop-holds Inv-loop μ-loop
 loop-holds c = search needs
 
--- src/lib.rt:29:29
 mul-one-if-same : tie.Need-mul-one-if-same Inv-loop μ-loop
 mul-one-if-same c = search needs
 
--- src/lib.rt:29:29
 shared-slice-read-one-if-same : tie.Need-shared-slice-read-one-if-same Inv-loop μ-loop
 shared-slice-read-one-if-same c = search needs
 
--- src/lib.rt:29:14
 one-if-same-requires : tie.Need-one-if-same-requires Inv-loop μ-loop
 one-if-same-requires c κs = search needs
 
--- src/lib.rt:29:9
 add-c : tie.Need-add-c Inv-loop μ-loop
 add-c c = search needs
 
--- src/lib.rt:30:9
 add-j : tie.Need-add-j Inv-loop μ-loop
 add-j c = search needs
 
--- src/lib.rt:28:5
 loop-less : tie.Need-loop-less Inv-loop μ-loop
 loop-less c = search needs
 
--- src/lib.rt:28:5
 loop-again : tie.Need-loop-again Inv-loop μ-loop
 loop-again c =
     let v = c .before .before .before .loop in
     let a = c .before .before .before .before .before .args in
     omega (arith, count-step (a .ents .now) (v .j) (a .e) (omega arith) (omega arith) (eqb (a .a)), c .one-if-same .ensures)
 
--- src/lib.rt:22:1
 returns : tie.Need-returns Inv-loop μ-loop
 returns c =
     let v = c .before .loop in

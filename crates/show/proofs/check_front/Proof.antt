@@ -8,19 +8,17 @@ use native.Mathlib.Omega.{arith}
 use mathlib.Core.Path.{sym}
 use lib.Seq.{length-take-le}
 
--- src/lib.rt:104:15
 slice-aggregate-check : tie.Need-slice-aggregate-check
-slice-aggregate-check c = sym (length-take-le (c .before .before .before .args .n) (c .before .before .before .args .s .now) (omega arith))
+slice-aggregate-check c =
+    let entry = c .before .before .before in
+    sym (length-take-le (entry .args .n) (entry .args .s .now) (omega arith))
 
--- src/lib.rt:104:9
 check-requires : tie.Need-check-requires
 check-requires c κs = search needs
 
--- src/lib.rt:102:1
 returns : tie.Need-returns
 returns c = search needs
 
--- src/lib.rt:102:1
 returns-2 : tie.Need-returns-2
 returns-2 c = search needs
 

@@ -22,52 +22,48 @@ Inv-loop s vs at ents rank n k₀ k = (3 ≤ k) × (k ≤ length vs + 1) × (giv
 abbrev μ-loop : tie.MeasureT-loop
 μ-loop s vs at ents rank n k₀ k = length vs + 1 - k
 
--- src/lib.rt:136:5
 loop-holds : tie.Need-loop-holds Inv-loop μ-loop
 loop-holds c = (search needs, omega (arith, c .before .before .before .before .before .pre .0 .headed .least), refl)
 
--- src/lib.rt:137:38
 position-requires : tie.Need-position-requires Inv-loop μ-loop
-position-requires c κs = (c .before .before .before .before .before .before .before .pre .0, c .before .before .before .before .before .before .before .pre .1, c .before .before .before .before .before .before .before .pre .2, omega arith, omega arith)
+position-requires c κs =
+    let entry = c .before .before .before .before .before .before .before in
+    (entry .pre .0, entry .pre .1, entry .pre .2, omega arith, omega arith)
 
--- src/lib.rt:137:33
 enum-known-r : tie.Need-enum-known-r Inv-loop μ-loop
 enum-known-r c = search needs
 
--- src/lib.rt:138:13
 returns : tie.Need-returns Inv-loop μ-loop
 returns c =
+    let entry = c .before .before .before .before .before .before .before .before .before .before .before in
     let v = c .before .before .before .before .before .loop in
     let q = c .before .r .given .0 .0 in
-    sym (v .inv .2 ∙ rows-refused (c .before .before .before .before .before .before .before .before .before .before .before .args .s .now) (v .k) (length (c .before .before .before .before .before .before .before .before .before .before .before .args .vs .now)) (omega arith) (numberOf q) (placeOf q) (sym (c .before .before .before .position .ensures) ∙ ap replyOf (c .before .r .given .1)))
+    sym (v .inv .2 ∙ rows-refused (entry .args .s .now) (v .k) (length (entry .args .vs .now)) (omega arith) (numberOf q) (placeOf q) (sym (c .before .before .before .position .ensures) ∙ ap replyOf (c .before .r .given .1)))
 
 enum-told : tie.Need-enum-told Inv-loop μ-loop
 enum-told c = search needs
 
--- src/lib.rt:140:9
 add-k : tie.Need-add-k Inv-loop μ-loop
 add-k c = search needs
 
--- src/lib.rt:136:5
 loop-less : tie.Need-loop-less Inv-loop μ-loop
 loop-less c = search needs
 
--- src/lib.rt:136:5
 loop-again : tie.Need-loop-again Inv-loop μ-loop
 loop-again c =
+    let entry = c .before .before .before .before .before .before .before .before .before .before in
     let v = c .before .before .before .before .loop in
-    (search needs, search needs, v .inv .2 ∙ rows-passed (c .before .before .before .before .before .before .before .before .before .before .args .s .now) (v .k) (length (c .before .before .before .before .before .before .before .before .before .before .args .vs .now)) (omega arith) (c .enum-told .given .0 .0) (sym (c .before .before .position .ensures) ∙ ap replyOf (c .enum-told .given .1)))
+    (search needs, search needs, v .inv .2 ∙ rows-passed (entry .args .s .now) (v .k) (length (entry .args .vs .now)) (omega arith) (c .enum-told .given .0 .0) (sym (c .before .before .position .ensures) ∙ ap replyOf (c .enum-told .given .1)))
 
--- src/lib.rt:142:23
 cast-t11 : tie.Need-cast-t11 Inv-loop μ-loop
 cast-t11 c = omega (arith, c .before .before .before .before .before .before .before .pre .0 .headed .most)
 
--- src/lib.rt:130:1
 returns-2 : tie.Need-returns-2 Inv-loop μ-loop
 returns-2 c =
+    let entry = c .before .before .before .before .before .before .before in
     let v = c .before .loop in
-    let n = length (c .before .before .before .before .before .before .before .args .vs .now) in
-    sym (v .inv .2 ∙ ap (λ (rows : _). given rows (c .before .before .before .before .before .before .before .args .s .now) posts) (rows-end (v .k) n (omega arith)) ∙ given-end (c .before .before .before .before .before .before .before .args .s .now) posts ∙ ap accepted (sym (c .before .before .before .before .before .before .before .pre .0 .headed .is)))
+    let n = length (entry .args .vs .now) in
+    sym (v .inv .2 ∙ ap (λ (rows : _). given rows (entry .args .s .now) posts) (rows-end (v .k) n (omega arith)) ∙ given-end (entry .args .s .now) posts ∙ ap accepted (sym (entry .pre .0 .headed .is)))
 
 pub fitting-spec : {M : Type 1} → statement M
 fitting-spec =

@@ -19,110 +19,109 @@ use Rattle.rings.proofs.Read.{degrees-count}
 use Rattle.unit.proofs.Given.{not-both}
 use Rattle.unit.proofs.Loads.{list-order, list-degree, list-total, list-fine}
 
--- src/lib.rt:79:9
 read-order-requires : tie.Need-read-order-requires
 read-order-requires c κs = search needs
 
--- src/lib.rt:81:48
 cast-t13 : tie.Need-cast-t13
 cast-t13 c = search needs
 
--- src/lib.rt:81:9
 same-length : tie.Need-same-length
 same-length c = search needs
 
--- src/lib.rt:81:9
 returns : tie.Need-returns
-returns c = (list-order (c .before .before .before .before .before .before .before .before .before .before .args .s .now) (c .before .before .before .before .before .before .before .before .before .before .args .b .n) (c .before .before .before .before .before .before .before .before .before .before .pre .0 .is) (c .before .before .before .read-order .result) (c .before .before .before .read-order .ensures .1) (c .if1 .taken), λ n e. not-both e)
+returns c =
+    let entry = c .before .before .before .before .before .before .before .before .before .before in
+    let read-order = c .before .before .before .read-order in
+    (list-order (entry .args .s .now) (entry .args .b .n) (entry .pre .0 .is) (read-order .result) (read-order .ensures .1) (c .if1 .taken), λ n e. not-both e)
 
--- src/lib.rt:83:9
 read-degrees-requires : tie.Need-read-degrees-requires
 read-degrees-requires c κs = search needs
 
--- src/lib.rt:85:50
 cast-t17 : tie.Need-cast-t17
 cast-t17 c = search needs
 
--- src/lib.rt:85:9
 same-length-2 : tie.Need-same-length-2
 same-length-2 c = search needs
 
--- src/lib.rt:85:9
 same-length-3 : tie.Need-same-length-3
 same-length-3 c = search needs
 
--- src/lib.rt:85:9
 returns-2 : tie.Need-returns-2
-returns-2 c = (list-degree (c .before .before .before .before .before .before .before .before .before .before .before .before .before .before .before .args .s .now) (c .before .before .before .before .before .before .before .before .before .before .before .before .before .before .before .args .b .n) (c .before .before .before .before .before .before .before .before .before .before .before .before .before .before .before .pre .0 .is) (c .before .before .before .before .before .before .before .before .read-order .result) (c .before .before .before .before .before .before .before .before .read-order .ensures .1) (c .before .before .before .before .before .if1 .left) (c .before .before .before .read-degrees .result) (c .before .before .before .read-degrees .ensures .1) (c .if2 .taken), λ n e. not-both e)
+returns-2 c =
+    let entry = c .before .before .before .before .before .before .before .before .before .before .before .before .before .before .before in
+    let read-order = c .before .before .before .before .before .before .before .before .read-order in
+    let read-degrees = c .before .before .before .read-degrees in
+    (list-degree (entry .args .s .now) (entry .args .b .n) (entry .pre .0 .is) (read-order .result) (read-order .ensures .1) (c .before .before .before .before .before .if1 .left) (read-degrees .result) (read-degrees .ensures .1) (c .if2 .taken), λ n e. not-both e)
 
--- src/lib.rt:87:21
 slice-reshare-prefix-total : tie.Need-slice-reshare-prefix-total
 slice-reshare-prefix-total c = search needs
 
--- src/lib.rt:87:21
 slice-aggregate-total : tie.Need-slice-aggregate-total
-slice-aggregate-total c = c .before .before .before .before .before .before .before .before .before .before .before .before .before .before .before .before .pre .0 .is ∙ sym (degrees-count (c .before .before .before .before .before .before .before .before .before .before .before .before .before .before .before .before .args .s .now) _ (c .before .before .before .before .read-degrees .ensures .0))
+slice-aggregate-total c =
+    let entry = c .before .before .before .before .before .before .before .before .before .before .before .before .before .before .before .before in
+    entry .pre .0 .is ∙ sym (degrees-count (entry .args .s .now) _ (c .before .before .before .before .read-degrees .ensures .0))
 
--- src/lib.rt:87:8
 total-requires : tie.Need-total-requires
-total-requires c κs = omega (arith, degrees-count (c .before .before .before .before .before .before .before .before .before .before .before .before .before .before .before .before .args .s .now) _ (c .before .before .before .before .read-degrees .ensures .0), c .before .before .before .before .before .before .before .before .before .before .before .before .before .before .before .before .pre .0 .is, c .before .before .before .before .before .before .before .before .before .before .before .before .before .before .before .before .pre .0 .most)
+total-requires c κs =
+    let entry = c .before .before .before .before .before .before .before .before .before .before .before .before .before .before .before .before in
+    omega (arith, degrees-count (entry .args .s .now) _ (c .before .before .before .before .read-degrees .ensures .0), entry .pre .0 .is, entry .pre .0 .most)
 
--- src/lib.rt:87:34
 entries-requires : tie.Need-entries-requires
 entries-requires c κs = search needs
 
--- src/lib.rt:88:50
 cast-t23 : tie.Need-cast-t23
 cast-t23 c = search needs
 
--- src/lib.rt:88:9
 same-length-4 : tie.Need-same-length-4
 same-length-4 c = search needs
 
--- src/lib.rt:88:9
 same-length-5 : tie.Need-same-length-5
 same-length-5 c = search needs
 
--- src/lib.rt:88:9
 returns-3 : tie.Need-returns-3
-returns-3 c = (list-total (c .before .before .before .before .before .before .before .before .before .before .before .before .before .before .before .before .before .before .before .args .s .now) (c .before .before .before .before .before .before .before .before .before .before .before .before .before .before .before .before .before .before .before .args .b .n) (c .before .before .before .before .before .before .before .before .before .before .before .before .before .before .before .before .before .before .before .pre .0 .is) (c .before .before .before .before .before .before .before .before .before .before .before .before .read-order .result) (c .before .before .before .before .before .before .before .before .before .before .before .before .read-order .ensures .1) (c .before .before .before .before .before .before .before .before .before .if1 .left) (c .before .before .before .before .before .before .before .read-degrees .result) (c .before .before .before .before .before .before .before .read-degrees .ensures .1) (c .before .before .before .before .if2 .left) (c .before .before .total .result) (c .before .entries .result) (c .before .before .total .ensures ∙ ap sumOf (c .before .before .before .before .before .before .before .read-degrees .ensures .0)) (c .before .entries .ensures) (c .if3 .taken), λ n e. not-both e)
+returns-3 c =
+    let entry = c .before .before .before .before .before .before .before .before .before .before .before .before .before .before .before .before .before .before .before in
+    let read-order = c .before .before .before .before .before .before .before .before .before .before .before .before .read-order in
+    let read-degrees = c .before .before .before .before .before .before .before .read-degrees in
+    (list-total (entry .args .s .now) (entry .args .b .n) (entry .pre .0 .is) (read-order .result) (read-order .ensures .1) (c .before .before .before .before .before .before .before .before .before .if1 .left) (read-degrees .result) (read-degrees .ensures .1) (c .before .before .before .before .if2 .left) (c .before .before .total .result) (c .before .entries .result) (c .before .before .total .ensures ∙ ap sumOf (read-degrees .ensures .0)) (c .before .entries .ensures) (c .if3 .taken), λ n e. not-both e)
 
--- src/lib.rt:90:29
 slice-reshare-prefix-read-lists : tie.Need-slice-reshare-prefix-read-lists
 slice-reshare-prefix-read-lists c = search needs
 
--- src/lib.rt:90:29
 slice-aggregate-read-lists : tie.Need-slice-aggregate-read-lists
-slice-aggregate-read-lists c = c .before .before .before .before .before .before .before .before .before .before .before .before .before .before .before .before .before .before .before .before .pre .0 .is ∙ sym (degrees-count (c .before .before .before .before .before .before .before .before .before .before .before .before .before .before .before .before .before .before .before .before .args .s .now) _ (c .before .before .before .before .before .before .before .before .read-degrees .ensures .0))
+slice-aggregate-read-lists c =
+    let entry = c .before .before .before .before .before .before .before .before .before .before .before .before .before .before .before .before .before .before .before .before in
+    entry .pre .0 .is ∙ sym (degrees-count (entry .args .s .now) _ (c .before .before .before .before .before .before .before .before .read-degrees .ensures .0))
 
--- src/lib.rt:90:5
 read-lists-requires : tie.Need-read-lists-requires
 read-lists-requires c κs =
-    (c .before .before .before .before .before .before .before .before .before .before .before .before .before .before .before .before .before .before .before .before .before .before .pre .0 .is, c .before .before .before .before .before .before .before .before .before .before .before .before .before .before .before .before .before .before .before .before .before .before .pre .0 .most, c .before .before .before .before .before .before .before .before .before .before .before .before .before .before .before .before .before .before .before .before .before .before .pre .0 .least, c .before .before .before .before .before .before .before .before .before .before .before .before .before .before .before .before .before .before .before .before .before .before .pre .0 .sized, c .before .before .before .before .before .before .before .before .before .before .read-degrees .ensures .0, sym (c .before .before .before .before .before .total .ensures) ∙ c .before .before .before .if3 .left ∙ c .before .before .before .before .entries .ensures, omega (arith, c .before .before .before .before .before .before .before .before .before .before .before .before .before .before .before .before .before .before .before .before .before .before .pre .1 .places), omega (arith, c .before .before .before .before .before .before .before .before .before .before .before .before .before .before .before .before .before .before .before .before .before .before .pre .1 .all))
+    let entry = c .before .before .before .before .before .before .before .before .before .before .before .before .before .before .before .before .before .before .before .before .before .before in
+    (entry .pre .0 .is, entry .pre .0 .most, entry .pre .0 .least, entry .pre .0 .sized, c .before .before .before .before .before .before .before .before .before .before .read-degrees .ensures .0, sym (c .before .before .before .before .before .total .ensures) ∙ c .before .before .before .if3 .left ∙ c .before .before .before .before .entries .ensures, omega (arith, entry .pre .1 .places), omega (arith, entry .pre .1 .all))
 
--- src/lib.rt:91:23
 cast-t32 : tie.Need-cast-t32
 cast-t32 c = search needs
 
--- src/lib.rt:74:1
 same-length-6 : tie.Need-same-length-6
 same-length-6 c = search needs
 
--- src/lib.rt:74:1
 same-length-7 : tie.Need-same-length-7
 same-length-7 c = search needs
 
--- src/lib.rt:74:1
 same-length-8 : tie.Need-same-length-8
 same-length-8 c = search needs
 
--- src/lib.rt:74:1
 same-length-9 : tie.Need-same-length-9
 same-length-9 c = search needs
 
--- src/lib.rt:74:1
 returns-4 : tie.Need-returns-4
-returns-4 c = (list-fine (c .before .before .before .before .before .before .before .before .before .before .before .before .before .before .before .before .before .before .before .before .before .before .before .before .before .before .before .args .s .now) (c .before .before .before .before .before .before .before .before .before .before .before .before .before .before .before .before .before .before .before .before .before .before .before .before .before .before .before .args .b .n) (c .before .before .before .before .before .before .before .before .before .before .before .before .before .before .before .before .before .before .before .before .before .before .before .before .before .before .before .pre .0 .is) (c .before .before .before .before .before .before .before .before .before .before .before .before .before .before .before .before .before .before .before .before .read-order .result) (c .before .before .before .before .before .before .before .before .before .before .before .before .before .before .before .before .before .before .before .before .read-order .ensures .1) (c .before .before .before .before .before .before .before .before .before .before .before .before .before .before .before .before .before .if1 .left) (c .before .before .before .before .before .before .before .before .before .before .before .before .before .before .before .read-degrees .result) (c .before .before .before .before .before .before .before .before .before .before .before .before .before .before .before .read-degrees .ensures .1) (c .before .before .before .before .before .before .before .before .before .before .before .before .if2 .left) (c .before .before .before .before .before .before .before .before .before .before .total .result) (c .before .before .before .before .before .before .before .before .before .entries .result) (c .before .before .before .before .before .before .before .before .before .before .total .ensures ∙ ap sumOf (c .before .before .before .before .before .before .before .before .before .before .before .before .before .before .before .read-degrees .ensures .0)) (c .before .before .before .before .before .before .before .before .before .entries .ensures) (c .before .before .before .before .before .before .before .before .if3 .left), λ n e. record { orders = c .before .before .before .before .before .before .before .before .before .before .before .before .before .before .before .before .before .before .before .before .read-order .ensures .0; rings = c .before .before .before .before .read-lists .ensures .0; cuts = c .before .before .before .before .read-lists .ensures .1 })
+returns-4 c =
+    let entry = c .before .before .before .before .before .before .before .before .before .before .before .before .before .before .before .before .before .before .before .before .before .before .before .before .before .before .before in
+    let read-order = c .before .before .before .before .before .before .before .before .before .before .before .before .before .before .before .before .before .before .before .before .read-order in
+    let read-degrees = c .before .before .before .before .before .before .before .before .before .before .before .before .before .before .before .read-degrees in
+    let total = c .before .before .before .before .before .before .before .before .before .before .total in
+    let the-entries = c .before .before .before .before .before .before .before .before .before .entries in
+    let read-lists = c .before .before .before .before .read-lists in
+    (list-fine (entry .args .s .now) (entry .args .b .n) (entry .pre .0 .is) (read-order .result) (read-order .ensures .1) (c .before .before .before .before .before .before .before .before .before .before .before .before .before .before .before .before .before .if1 .left) (read-degrees .result) (read-degrees .ensures .1) (c .before .before .before .before .before .before .before .before .before .before .before .before .if2 .left) (total .result) (the-entries .result) (total .ensures ∙ ap sumOf (read-degrees .ensures .0)) (the-entries .ensures) (c .before .before .before .before .before .before .before .before .if3 .left), λ n e. record { orders = read-order .ensures .0; rings = read-lists .ensures .0; cuts = read-lists .ensures .1 })
 
 pub load-spec : {M : Type 1} → statement M
 load-spec =

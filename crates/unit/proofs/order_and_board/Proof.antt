@@ -20,43 +20,44 @@ use Rattle.unit.specs.Held.{ringRows, rowsFrom}
 use Rattle.unit.proofs.Given.{not-both}
 use Rattle.unit.proofs.Sounds.{ringed, part-refused, part-passed, part-none, entries-of}
 
--- src/lib.rt:158:9
 board-requires : tie.Need-board-requires
 board-requires c κs = search needs
 
 enum-told : tie.Need-enum-told
 enum-told c = search needs
 
--- src/lib.rt:160:9
 enum-told-2 : tie.Need-enum-told-2
 enum-told-2 c = search needs
 
--- src/lib.rt:160:9
 returns : tie.Need-returns
 returns c =
+    let entry = c .before .before .before .before .before .before .before .before in
     let q = c .enum-told2 .given .0 .0 in
     let e = ap replyOf (c .enum-told2 .given .1) in
-    (part-refused (c .before .before .before .before .before .before .before .before .args .s .now) posts ringRows (rowsFrom 3 (posts (c .before .before .before .before .before .before .before .before .args .s .now))) (replyOf (c .before .before .board .result)) (c .before .before .board .ensures) (numberOf q) (placeOf q) e, λ n f. not-both (sym e ∙ f))
+    (part-refused (entry .args .s .now) posts ringRows (rowsFrom 3 (posts (entry .args .s .now))) (replyOf (c .before .before .board .result)) (c .before .before .board .ensures) (numberOf q) (placeOf q) e, λ n f. not-both (sym e ∙ f))
 
--- src/lib.rt:162:5
 ranks-requires : tie.Need-ranks-requires
-ranks-requires c κs = (c .before .before .before .before .before .before .before .before .before .pre .0 .headed .most, omega (arith, c .before .before .before .before .before .before .before .before .before .pre .1, c .before .before .before .before .before .before .before .before .before .pre .0 .headed .most), entries-of (c .before .before .before .before .before .before .before .before .before .args .s .now) (c .before .before .before .before .before .before .before .before .before .args .vs .now) (c .before .before .before .before .before .before .before .before .before .pre .0 .headed .is) (c .before .before .before .before .before .before .before .before .before .pre .0 .orders) (c .before .before .before .before .before .before .before .before .before .pre .2))
+ranks-requires c κs =
+    let entry = c .before .before .before .before .before .before .before .before .before in
+    (entry .pre .0 .headed .most, omega (arith, entry .pre .1, entry .pre .0 .headed .most), entries-of (entry .args .s .now) (entry .args .vs .now) (entry .pre .0 .headed .is) (entry .pre .0 .orders) (entry .pre .2))
 
--- src/lib.rt:163:5
 fitting-requires : tie.Need-fitting-requires
 fitting-requires c κs =
-    (c .before .before .before .before .before .before .before .before .before .before .before .before .before .pre .0, c .before .before .before .ranks .ensures, ringed (c .before .before .before .before .before .before .before .before .before .before .before .before .before .args .s .now) (c .before .before .before .before .before .before .before .before .before .before .before .before .before .pre .2) (part-none (c .before .before .before .before .before .before .before .before .before .before .before .before .before .args .s .now) posts ringRows (rowsFrom 3 (posts (c .before .before .before .before .before .before .before .before .before .before .before .before .before .args .s .now))) (replyOf (c .before .before .before .before .before .before .before .board .result)) (c .before .before .before .before .before .before .before .board .ensures) _ (ap replyOf (c .before .before .before .before .before .enum-told .given .1))))
+    let entry = c .before .before .before .before .before .before .before .before .before .before .before .before .before in
+    let board = c .before .before .before .before .before .before .before .board in
+    (entry .pre .0, c .before .before .before .ranks .ensures, ringed (entry .args .s .now) (entry .pre .2) (part-none (entry .args .s .now) posts ringRows (rowsFrom 3 (posts (entry .args .s .now))) (replyOf (board .result)) (board .ensures) _ (ap replyOf (c .before .before .before .before .before .enum-told .given .1))))
 
--- src/lib.rt:154:1
 same-length : tie.Need-same-length
 same-length c = search needs
 
--- src/lib.rt:154:1
 returns-2 : tie.Need-returns-2
 returns-2 c =
-    let s = c .before .before .before .before .before .before .before .before .before .before .before .before .before .before .args .s .now in (
-      c .fitting .ensures ∙ ap (λ (n : ℕ). given (rowsFrom 3 n) s posts) (c .before .before .before .before .before .before .before .before .before .before .before .before .before .before .pre .0 .headed .is) ∙ part-passed s posts ringRows (rowsFrom 3 (posts s)) (replyOf (c .before .before .before .before .before .before .before .before .board .result)) (c .before .before .before .before .before .before .before .before .board .ensures) _ (ap replyOf (c .before .before .before .before .before .before .enum-told .given .1)),
-      λ n f. subst (λ (l : List ℕ). Ranked l (c .before .before .before .before .ranks .last .1 .0)) (c .before .before .before .before .before .before .before .before .before .before .before .before .before .before .pre .0 .orders) (c .before .before .before .before .ranks .ensures),
+    let entry = c .before .before .before .before .before .before .before .before .before .before .before .before .before .before in
+    let board = c .before .before .before .before .before .before .before .before .board in
+    let ranks = c .before .before .before .before .ranks in
+    let s = entry .args .s .now in (
+      c .fitting .ensures ∙ ap (λ (n : ℕ). given (rowsFrom 3 n) s posts) (entry .pre .0 .headed .is) ∙ part-passed s posts ringRows (rowsFrom 3 (posts s)) (replyOf (board .result)) (board .ensures) _ (ap replyOf (c .before .before .before .before .before .before .enum-told .given .1)),
+      λ n f. subst (λ (l : List ℕ). Ranked l (ranks .last .1 .0)) (entry .pre .0 .orders) (ranks .ensures),
     )
 
 pub order-and-board-spec : {M : Type 1} → statement M

@@ -25,89 +25,73 @@ use Rattle.unit.specs.Refusals.{numberOf, placeOf, replyOf}
 use Rattle.unit.specs.Held.{Ready}
 use Rattle.unit.proofs.Calls.{post-refused}
 
--- src/lib.rt:402:18
 no-names-requires : tie.Need-no-names-requires
 no-names-requires c κs = search needs
 
--- src/lib.rt:403:18
 no-names-requires-2 : tie.Need-no-names-requires-2
 no-names-requires-2 c κs = search needs
 
--- src/lib.rt:404:18
 no-places-requires : tie.Need-no-places-requires
 no-places-requires c κs = search needs
 
--- src/lib.rt:405:20
 no-entries-requires : tie.Need-no-entries-requires
 no-entries-requires c κs = search needs
 
--- src/lib.rt:406:20
 no-names-requires-3 : tie.Need-no-names-requires-3
 no-names-requires-3 c κs = search needs
 
--- src/lib.rt:407:27
 slice-aggregate-check-into : tie.Need-slice-aggregate-check-into
 slice-aggregate-check-into c = search needs
 
--- src/lib.rt:407:36
 slice-aggregate-check-into-2 : tie.Need-slice-aggregate-check-into-2
 slice-aggregate-check-into-2 c = search needs
 
--- src/lib.rt:407:45
 slice-aggregate-check-into-3 : tie.Need-slice-aggregate-check-into-3
 slice-aggregate-check-into-3 c = search needs
 
--- src/lib.rt:407:54
 slice-aggregate-check-into-4 : tie.Need-slice-aggregate-check-into-4
 slice-aggregate-check-into-4 c = search needs
 
--- src/lib.rt:407:65
 slice-aggregate-check-into-5 : tie.Need-slice-aggregate-check-into-5
 slice-aggregate-check-into-5 c = search needs
 
--- src/lib.rt:407:9
 check-into-requires : tie.Need-check-into-requires
 check-into-requires c κs = search needs
 
--- src/lib.rt:409:25
 enum-known-r : tie.Need-enum-known-r
 enum-known-r c = search needs
 
--- src/lib.rt:410:26
 enum-known-r-2 : tie.Need-enum-known-r-2
 enum-known-r-2 c = search needs
 
--- src/lib.rt:410:47
 number-requires : tie.Need-number-requires
 number-requires c κs = search needs
 
--- src/lib.rt:410:69
 slice-aggregate-post-of : tie.Need-slice-aggregate-post-of
 slice-aggregate-post-of c = search needs
 
--- src/lib.rt:410:74
 slice-aggregate-post-of-2 : tie.Need-slice-aggregate-post-of-2
 slice-aggregate-post-of-2 c = search needs
 
--- src/lib.rt:410:79
 slice-aggregate-post-of-3 : tie.Need-slice-aggregate-post-of-3
 slice-aggregate-post-of-3 c = search needs
 
--- src/lib.rt:410:86
 slice-aggregate-post-of-4 : tie.Need-slice-aggregate-post-of-4
 slice-aggregate-post-of-4 c = search needs
 
--- src/lib.rt:410:36
 post-of-requires : tie.Need-post-of-requires
-post-of-requires c κs = ((sym (c .before .before .before .before .before .before .before .before .before .before .before .before .before .check-into .ensures .0) ∙ ap replyOf (c .before .before .before .before .before .before .r2 .given .1) ∙ ap accepted (sym (c .before .before .before .before .number .ensures .0))), (subst⁻¹ (λ (m : ℕ). Ready (c .before .before .before .before .before .before .before .before .before .before .before .before .before .before .before .before .before .before .before .before .before .before .before .before .before .args .s .now) m (c .before .before .before .before .before .before .before .before .before .before .before .before .before .check-into .last .1 .0) (c .before .before .before .before .before .before .before .before .before .before .before .before .before .check-into .last .1 .1 .1 .0) (c .before .before .before .before .before .before .before .before .before .before .before .before .before .check-into .last .1 .1 .1 .1 .0) (c .before .before .before .before .before .before .before .before .before .before .before .before .before .check-into .last .1 .1 .1 .1 .1 .0)) (c .before .before .before .before .number .ensures .0) (c .before .before .before .before .before .before .before .before .before .before .before .before .before .check-into .ensures .1 (c .before .before .before .before .before .before .r2 .given .0 .0) (ap replyOf (c .before .before .before .before .before .before .r2 .given .1)))), record { names = omega (arith, c .before .before .before .before .before .before .before .before .before .before .before .before .before .before .before .before .before .before .before .before .before .before .before .no-names .ensures, c .before .before .before .before .before .before .before .before .before .before .before .before .vs2 .given); places = omega (arith, c .before .before .before .before .before .before .before .before .before .before .before .before .before .before .before .before .before .before .before .before .before .no-places .ensures, c .before .before .before .before .before .before .before .before .before .before .at2 .given); all = omega (arith, c .before .before .before .before .before .before .before .before .before .before .before .before .before .before .before .before .before .before .before .before .no-entries .ensures, c .before .before .before .before .before .before .before .before .before .ents2 .given) })
+post-of-requires c κs =
+    let check-into = c .before .before .before .before .before .before .before .before .before .before .before .before .before .check-into in
+    let r2 = c .before .before .before .before .before .before .r2 in
+    let number = c .before .before .before .before .number in
+    ((sym (check-into .ensures .0) ∙ ap replyOf (r2 .given .1) ∙ ap accepted (sym (number .ensures .0))), (subst⁻¹ (λ (m : ℕ). Ready (c .before .before .before .before .before .before .before .before .before .before .before .before .before .before .before .before .before .before .before .before .before .before .before .before .before .args .s .now) m (check-into .last .1 .0) (check-into .last .1 .1 .1 .0) (check-into .last .1 .1 .1 .1 .0) (check-into .last .1 .1 .1 .1 .1 .0)) (number .ensures .0) (check-into .ensures .1 (r2 .given .0 .0) (ap replyOf (r2 .given .1)))), record { names = omega (arith, c .before .before .before .before .before .before .before .before .before .before .before .before .before .before .before .before .before .before .before .before .before .before .before .no-names .ensures, c .before .before .before .before .before .before .before .before .before .before .before .before .vs2 .given); places = omega (arith, c .before .before .before .before .before .before .before .before .before .before .before .before .before .before .before .before .before .before .before .before .before .no-places .ensures, c .before .before .before .before .before .before .before .before .before .before .at2 .given); all = omega (arith, c .before .before .before .before .before .before .before .before .before .before .before .before .before .before .before .before .before .before .before .before .no-entries .ensures, c .before .before .before .before .before .before .before .before .before .ents2 .given) })
 
--- src/lib.rt:399:1
 returns : tie.Need-returns
 returns c =
+    let entry = c .before .before .before .before .before .before .before .before .before .before .before .before .before .before .before .before .before .before .before .before in
     let q = c .before .r .given .0 .0 in
-    sym (post-refused (c .before .before .before .before .before .before .before .before .before .before .before .before .before .before .before .before .before .before .before .before .args .s .now) (c .before .before .before .before .before .before .before .before .before .before .before .before .before .before .before .before .before .before .before .before .args .k) (c .before .before .before .before .before .before .before .before .before .before .before .before .before .before .before .before .before .before .before .before .args .u) (numberOf q) (placeOf q) (sym (c .before .before .before .before .before .before .before .before .check-into .ensures .0) ∙ ap replyOf (c .before .r .given .1)))
+    sym (post-refused (entry .args .s .now) (entry .args .k) (entry .args .u) (numberOf q) (placeOf q) (sym (c .before .before .before .before .before .before .before .before .check-into .ensures .0) ∙ ap replyOf (c .before .r .given .1)))
 
--- src/lib.rt:399:1
 returns-2 : tie.Need-returns-2
 returns-2 c = search needs
 

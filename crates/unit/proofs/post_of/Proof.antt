@@ -21,50 +21,56 @@ use Rattle.unit.specs.Refusals.{numberOf, placeOf, replyOf}
 use Rattle.unit.specs.Held.{Ready}
 use Rattle.unit.proofs.Calls.{post-low, post-high, post-unnamed, post-fine, length-is, to-engine, stage-is}
 
--- src/lib.rt:384:9
 returns : tie.Need-returns
-returns c = sym (post-low (c .before .before .before .before .before .before .args .s .now) (c .before .before .before .before .before .before .args .k) (c .before .before .before .before .before .before .args .u) (c .before .before .before .before .before .before .args .n) (c .before .before .before .before .before .before .pre .0) (c .before .before .before .before .before .before .pre .1 .headed .is) (c .if1 .taken))
+returns c =
+    let entry = c .before .before .before .before .before .before in
+    sym (post-low (entry .args .s .now) (entry .args .k) (entry .args .u) (entry .args .n) (entry .pre .0) (entry .pre .1 .headed .is) (c .if1 .taken))
 
--- src/lib.rt:387:9
 returns-2 : tie.Need-returns-2
-returns-2 c = sym (post-high (c .before .before .before .before .before .before .before .args .s .now) (c .before .before .before .before .before .before .before .args .k) (c .before .before .before .before .before .before .before .args .u) (c .before .before .before .before .before .before .before .args .n) (c .before .before .before .before .before .before .before .pre .0) (c .before .before .before .before .before .before .before .pre .1 .headed .is) (c .before .if1 .left) (c .if2 .taken))
+returns-2 c =
+    let entry = c .before .before .before .before .before .before .before in
+    sym (post-high (entry .args .s .now) (entry .args .k) (entry .args .u) (entry .args .n) (entry .pre .0) (entry .pre .1 .headed .is) (c .before .if1 .left) (c .if2 .taken))
 
--- src/lib.rt:390:9
 returns-3 : tie.Need-returns-3
-returns-3 c = sym (post-unnamed (c .before .before .before .before .before .before .before .before .args .s .now) (c .before .before .before .before .before .before .before .before .args .k) (c .before .before .before .before .before .before .before .before .args .u) (c .before .before .before .before .before .before .before .before .args .n) (c .before .before .before .before .before .before .before .before .pre .0) (c .before .before .before .before .before .before .before .before .pre .1 .headed .is) (c .before .before .if1 .left) (c .before .if2 .left) (c .if3 .taken))
+returns-3 c =
+    let entry = c .before .before .before .before .before .before .before .before in
+    sym (post-unnamed (entry .args .s .now) (entry .args .k) (entry .args .u) (entry .args .n) (entry .pre .0) (entry .pre .1 .headed .is) (c .before .before .if1 .left) (c .before .if2 .left) (c .if3 .taken))
 
--- src/lib.rt:393:9
 entries-requires : tie.Need-entries-requires
-entries-requires c κs = (c .before .before .before .before .before .before .before .before .pre .1 .headed .least, c .before .before .before .before .before .before .before .before .pre .1 .headed .most)
+entries-requires c κs =
+    let entry = c .before .before .before .before .before .before .before .before in
+    (entry .pre .1 .headed .least, entry .pre .1 .headed .most)
 
--- src/lib.rt:394:13
 add-p : tie.Need-add-p
 add-p c = search needs
 
--- src/lib.rt:395:32
 slice-aggregate-draw-post : tie.Need-slice-aggregate-draw-post
-slice-aggregate-draw-post c = sym (length-take-le _ _ (omega (arith, c .before .before .before .before .before .before .before .before .before .before .pre .1 .headed .most, c .before .before .before .before .before .before .before .before .before .before .pre .2 .places)))
+slice-aggregate-draw-post c =
+    let entry = c .before .before .before .before .before .before .before .before .before .before in
+    sym (length-take-le _ _ (omega (arith, entry .pre .1 .headed .most, entry .pre .2 .places)))
 
--- src/lib.rt:395:42
 slice-aggregate-draw-post-2 : tie.Need-slice-aggregate-draw-post-2
-slice-aggregate-draw-post-2 c = sym (length-take-le _ _ (omega (arith, c .before .before .before .before .before .before .before .before .before .before .before .pre .1 .headed .most, c .before .before .before .before .before .before .before .before .before .before .before .pre .1 .headed .least, c .before .before .entries .ensures, c .before .before .before .before .before .before .before .before .before .before .before .pre .2 .all)))
+slice-aggregate-draw-post-2 c =
+    let entry = c .before .before .before .before .before .before .before .before .before .before .before in
+    sym (length-take-le _ _ (omega (arith, entry .pre .1 .headed .most, entry .pre .1 .headed .least, c .before .before .entries .ensures, entry .pre .2 .all)))
 
--- src/lib.rt:395:54
 slice-aggregate-draw-post-3 : tie.Need-slice-aggregate-draw-post-3
-slice-aggregate-draw-post-3 c = sym (length-take-le _ _ (omega (arith, c .before .before .before .before .before .before .before .before .before .before .before .before .pre .1 .headed .most, c .before .before .before .before .before .before .before .before .before .before .before .before .pre .2 .names)))
+slice-aggregate-draw-post-3 c =
+    let entry = c .before .before .before .before .before .before .before .before .before .before .before .before in
+    sym (length-take-le _ _ (omega (arith, entry .pre .1 .headed .most, entry .pre .2 .names)))
 
--- src/lib.rt:395:73
 cast-draw-post : tie.Need-cast-draw-post
 cast-draw-post c = omega (arith, c .before .before .before .before .before .before .before .before .before .before .before .before .pre .1 .headed .most)
 
--- src/lib.rt:395:22
 draw-post-requires : tie.Need-draw-post-requires
-draw-post-requires c κs = (subst⁻¹ (λ (m : ℕ). Accepted (take ((c .before .before .before .before .before .before .before .before .before .before .before .before .args .n) + 1) (c .before .before .before .before .before .before .before .before .before .before .before .before .args .at .now)) (take m (c .before .before .before .before .before .before .before .before .before .before .before .before .args .ents .now)) (take (c .before .before .before .before .before .before .before .before .before .before .before .before .args .n) (c .before .before .before .before .before .before .before .before .before .before .before .before .args .vs .now)) (c .before .before .before .before .before .before .before .before .before .before .before .before .args .rank .now)) (c .before .before .before .entries .ensures) (to-engine (c .before .before .before .before .before .before .before .before .before .before .before .before .args .s .now) (c .before .before .before .before .before .before .before .before .before .before .before .before .args .n) (c .before .before .before .before .before .before .before .before .before .before .before .before .pre .0) (c .before .before .before .before .before .before .before .before .before .before .before .before .args .vs .now) (c .before .before .before .before .before .before .before .before .before .before .before .before .args .at .now) (c .before .before .before .before .before .before .before .before .before .before .before .before .args .ents .now) (c .before .before .before .before .before .before .before .before .before .before .before .before .args .rank .now) (c .before .before .before .before .before .before .before .before .before .before .before .before .pre .1) (omega (arith, c .before .before .before .before .before .before .before .before .before .before .before .before .pre .2 .places))), c .before .before .before .before .before .before .if1 .left, omega (arith, length-is (c .before .before .before .before .before .before .before .before .before .before .before .before .args .s .now) (c .before .before .before .before .before .before .before .before .before .before .before .before .args .n) (c .before .before .before .before .before .before .before .before .before .before .before .before .pre .0) (c .before .before .before .before .before .before .before .before .before .before .before .before .args .vs .now) (c .before .before .before .before .before .before .before .before .before .before .before .before .args .at .now) (c .before .before .before .before .before .before .before .before .before .before .before .before .args .ents .now) (c .before .before .before .before .before .before .before .before .before .before .before .before .args .rank .now) (c .before .before .before .before .before .before .before .before .before .before .before .before .pre .1) (omega (arith, c .before .before .before .before .before .before .before .before .before .before .before .before .pre .2 .places))), omega (arith, length-is (c .before .before .before .before .before .before .before .before .before .before .before .before .args .s .now) (c .before .before .before .before .before .before .before .before .before .before .before .before .args .n) (c .before .before .before .before .before .before .before .before .before .before .before .before .pre .0) (c .before .before .before .before .before .before .before .before .before .before .before .before .args .vs .now) (c .before .before .before .before .before .before .before .before .before .before .before .before .args .at .now) (c .before .before .before .before .before .before .before .before .before .before .before .before .args .ents .now) (c .before .before .before .before .before .before .before .before .before .before .before .before .args .rank .now) (c .before .before .before .before .before .before .before .before .before .before .before .before .pre .1) (omega (arith, c .before .before .before .before .before .before .before .before .before .before .before .before .pre .2 .places))))
+draw-post-requires c κs =
+    let entry = c .before .before .before .before .before .before .before .before .before .before .before .before in
+    (subst⁻¹ (λ (m : ℕ). Accepted (take ((entry .args .n) + 1) (entry .args .at .now)) (take m (entry .args .ents .now)) (take (entry .args .n) (entry .args .vs .now)) (entry .args .rank .now)) (c .before .before .before .entries .ensures) (to-engine (entry .args .s .now) (entry .args .n) (entry .pre .0) (entry .args .vs .now) (entry .args .at .now) (entry .args .ents .now) (entry .args .rank .now) (entry .pre .1) (omega (arith, entry .pre .2 .places))), c .before .before .before .before .before .before .if1 .left, omega (arith, length-is (entry .args .s .now) (entry .args .n) (entry .pre .0) (entry .args .vs .now) (entry .args .at .now) (entry .args .ents .now) (entry .args .rank .now) (entry .pre .1) (omega (arith, entry .pre .2 .places))), omega (arith, length-is (entry .args .s .now) (entry .args .n) (entry .pre .0) (entry .args .vs .now) (entry .args .at .now) (entry .args .ents .now) (entry .args .rank .now) (entry .pre .1) (omega (arith, entry .pre .2 .places))))
 
--- src/lib.rt:379:1
 returns-4 : tie.Need-returns-4
 returns-4 c =
-    ap accepted (c .draw-post .ensures ∙ ap (λ (t : Stage). recordOf t (c .before .before .before .before .before .before .before .before .before .before .before .before .before .args .u)) (subst⁻¹ (λ (m : ℕ). stage (held (take ((c .before .before .before .before .before .before .before .before .before .before .before .before .before .args .n) + 1) (c .before .before .before .before .before .before .before .before .before .before .before .before .before .args .at .now)) (take m (c .before .before .before .before .before .before .before .before .before .before .before .before .before .args .ents .now))) (take (c .before .before .before .before .before .before .before .before .before .before .before .before .before .args .k) (take (c .before .before .before .before .before .before .before .before .before .before .before .before .before .args .n) (c .before .before .before .before .before .before .before .before .before .before .before .before .before .args .vs .now))) ≡ stageAt (c .before .before .before .before .before .before .before .before .before .before .before .before .before .args .k) (c .before .before .before .before .before .before .before .before .before .before .before .before .before .args .s .now)) (c .before .before .before .before .entries .ensures) (stage-is (c .before .before .before .before .before .before .before .before .before .before .before .before .before .args .s .now) (c .before .before .before .before .before .before .before .before .before .before .before .before .before .args .n) (c .before .before .before .before .before .before .before .before .before .before .before .before .before .pre .0) (c .before .before .before .before .before .before .before .before .before .before .before .before .before .args .vs .now) (c .before .before .before .before .before .before .before .before .before .before .before .before .before .args .at .now) (c .before .before .before .before .before .before .before .before .before .before .before .before .before .args .ents .now) (c .before .before .before .before .before .before .before .before .before .before .before .before .before .args .rank .now) (c .before .before .before .before .before .before .before .before .before .before .before .before .before .pre .1) (omega (arith, c .before .before .before .before .before .before .before .before .before .before .before .before .before .pre .2 .places)) (c .before .before .before .before .before .before .before .before .before .before .before .before .before .args .k)))) ∙ sym (post-fine (c .before .before .before .before .before .before .before .before .before .before .before .before .before .args .s .now) (c .before .before .before .before .before .before .before .before .before .before .before .before .before .args .k) (c .before .before .before .before .before .before .before .before .before .before .before .before .before .args .u) (c .before .before .before .before .before .before .before .before .before .before .before .before .before .args .n) (c .before .before .before .before .before .before .before .before .before .before .before .before .before .pre .0) (c .before .before .before .before .before .before .before .before .before .before .before .before .before .pre .1 .headed .is) (c .before .before .before .before .before .before .before .if1 .left) (c .before .before .before .before .before .before .if2 .left) (c .before .before .before .before .before .if3 .left))
+    let entry = c .before .before .before .before .before .before .before .before .before .before .before .before .before in
+    ap accepted (c .draw-post .ensures ∙ ap (λ (t : Stage). recordOf t (entry .args .u)) (subst⁻¹ (λ (m : ℕ). stage (held (take ((entry .args .n) + 1) (entry .args .at .now)) (take m (entry .args .ents .now))) (take (entry .args .k) (take (entry .args .n) (entry .args .vs .now))) ≡ stageAt (entry .args .k) (entry .args .s .now)) (c .before .before .before .before .entries .ensures) (stage-is (entry .args .s .now) (entry .args .n) (entry .pre .0) (entry .args .vs .now) (entry .args .at .now) (entry .args .ents .now) (entry .args .rank .now) (entry .pre .1) (omega (arith, entry .pre .2 .places)) (entry .args .k)))) ∙ sym (post-fine (entry .args .s .now) (entry .args .k) (entry .args .u) (entry .args .n) (entry .pre .0) (entry .pre .1 .headed .is) (c .before .before .before .before .before .before .before .if1 .left) (c .before .before .before .before .before .before .if2 .left) (c .before .before .before .before .before .if3 .left))
 
 pub post-of-spec : {M : Type 1} → statement M
 post-of-spec =

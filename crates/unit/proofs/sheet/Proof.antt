@@ -25,94 +25,77 @@ use Rattle.unit.specs.Refusals.{numberOf, placeOf, replyOf}
 use Rattle.unit.specs.Held.{Ready}
 use Rattle.unit.proofs.Calls.{sheet-refused, buffer-kept}
 
--- src/lib.rt:360:18
 no-names-requires : tie.Need-no-names-requires
 no-names-requires c κs = search needs
 
--- src/lib.rt:361:18
 no-names-requires-2 : tie.Need-no-names-requires-2
 no-names-requires-2 c κs = search needs
 
--- src/lib.rt:362:18
 no-places-requires : tie.Need-no-places-requires
 no-places-requires c κs = search needs
 
--- src/lib.rt:363:20
 no-entries-requires : tie.Need-no-entries-requires
 no-entries-requires c κs = search needs
 
--- src/lib.rt:364:20
 no-names-requires-3 : tie.Need-no-names-requires-3
 no-names-requires-3 c κs = search needs
 
--- src/lib.rt:365:27
 slice-aggregate-check-into : tie.Need-slice-aggregate-check-into
 slice-aggregate-check-into c = search needs
 
--- src/lib.rt:365:36
 slice-aggregate-check-into-2 : tie.Need-slice-aggregate-check-into-2
 slice-aggregate-check-into-2 c = search needs
 
--- src/lib.rt:365:45
 slice-aggregate-check-into-3 : tie.Need-slice-aggregate-check-into-3
 slice-aggregate-check-into-3 c = search needs
 
--- src/lib.rt:365:54
 slice-aggregate-check-into-4 : tie.Need-slice-aggregate-check-into-4
 slice-aggregate-check-into-4 c = search needs
 
--- src/lib.rt:365:65
 slice-aggregate-check-into-5 : tie.Need-slice-aggregate-check-into-5
 slice-aggregate-check-into-5 c = search needs
 
--- src/lib.rt:365:9
 check-into-requires : tie.Need-check-into-requires
 check-into-requires c κs = search needs
 
--- src/lib.rt:366:26
 enum-known-r : tie.Need-enum-known-r
 enum-known-r c = search needs
 
--- src/lib.rt:367:9
 enum-told : tie.Need-enum-told
 enum-told c = search needs
 
--- src/lib.rt:367:9
 returns : tie.Need-returns
 returns c =
+    let entry = c .before .before .before .before .before .before .before .before .before .before .before .before .before .before .before .before .before .before .before .before in
     let q = c .enum-told .given .0 .0 in
-    let e = sheet-refused (c .before .before .before .before .before .before .before .before .before .before .before .before .before .before .before .before .before .before .before .before .args .s .now) (c .before .before .before .before .before .before .before .before .before .before .before .before .before .before .before .before .before .before .before .before .args .k) (c .before .before .before .before .before .before .before .before .before .before .before .before .before .before .before .before .before .before .before .before .args .buffer .now) (numberOf q) (placeOf q) (sym (c .before .before .before .before .before .before .before .check-into .ensures .0) ∙ ap replyOf (c .enum-told .given .1)) in
-    (ap replyOf (c .enum-told .given .1) ∙ sym e, buffer-kept (c .before .before .before .before .before .before .before .before .before .before .before .before .before .before .before .before .before .before .before .before .args .s .now) (c .before .before .before .before .before .before .before .before .before .before .before .before .before .before .before .before .before .before .before .before .args .k) (c .before .before .before .before .before .before .before .before .before .before .before .before .before .before .before .before .before .before .before .before .args .buffer .now) (numberOf q) (placeOf q) e)
+    let e = sheet-refused (entry .args .s .now) (entry .args .k) (entry .args .buffer .now) (numberOf q) (placeOf q) (sym (c .before .before .before .before .before .before .before .check-into .ensures .0) ∙ ap replyOf (c .enum-told .given .1)) in
+    (ap replyOf (c .enum-told .given .1) ∙ sym e, buffer-kept (entry .args .s .now) (entry .args .k) (entry .args .buffer .now) (numberOf q) (placeOf q) e)
 
--- src/lib.rt:369:17
 number-requires : tie.Need-number-requires
 number-requires c κs = search needs
 
--- src/lib.rt:369:39
 slice-aggregate-sheet-of : tie.Need-slice-aggregate-sheet-of
 slice-aggregate-sheet-of c = search needs
 
--- src/lib.rt:369:44
 slice-aggregate-sheet-of-2 : tie.Need-slice-aggregate-sheet-of-2
 slice-aggregate-sheet-of-2 c = search needs
 
--- src/lib.rt:369:49
 slice-aggregate-sheet-of-3 : tie.Need-slice-aggregate-sheet-of-3
 slice-aggregate-sheet-of-3 c = search needs
 
--- src/lib.rt:369:56
 slice-aggregate-sheet-of-4 : tie.Need-slice-aggregate-sheet-of-4
 slice-aggregate-sheet-of-4 c = search needs
 
--- src/lib.rt:369:5
 sheet-of-requires : tie.Need-sheet-of-requires
-sheet-of-requires c κs = ((sym (c .before .before .before .before .before .before .before .before .before .before .before .before .before .before .check-into .ensures .0) ∙ ap replyOf (c .before .before .before .before .before .before .before .r .given .1) ∙ ap accepted (sym (c .before .before .before .before .before .number .ensures .0))), (subst⁻¹ (λ (m : ℕ). Ready (c .before .before .before .before .before .before .before .before .before .before .before .before .before .before .before .before .before .before .before .before .before .before .before .before .before .before .before .args .s .now) m (c .before .before .before .before .before .before .before .before .before .before .before .before .before .before .check-into .last .1 .0) (c .before .before .before .before .before .before .before .before .before .before .before .before .before .before .check-into .last .1 .1 .1 .0) (c .before .before .before .before .before .before .before .before .before .before .before .before .before .before .check-into .last .1 .1 .1 .1 .0) (c .before .before .before .before .before .before .before .before .before .before .before .before .before .before .check-into .last .1 .1 .1 .1 .1 .0)) (c .before .before .before .before .before .number .ensures .0) (c .before .before .before .before .before .before .before .before .before .before .before .before .before .before .check-into .ensures .1 (c .before .before .before .before .before .before .before .r .given .0 .0) (ap replyOf (c .before .before .before .before .before .before .before .r .given .1)))), record { names = omega (arith, c .before .before .before .before .before .before .before .before .before .before .before .before .before .before .before .before .before .before .before .before .before .before .before .before .no-names .ensures, c .before .before .before .before .before .before .before .before .before .before .before .before .before .vs2 .given); places = omega (arith, c .before .before .before .before .before .before .before .before .before .before .before .before .before .before .before .before .before .before .before .before .before .before .no-places .ensures, c .before .before .before .before .before .before .before .before .before .before .before .at2 .given); all = omega (arith, c .before .before .before .before .before .before .before .before .before .before .before .before .before .before .before .before .before .before .before .before .before .no-entries .ensures, c .before .before .before .before .before .before .before .before .before .before .ents2 .given) })
+sheet-of-requires c κs =
+    let check-into = c .before .before .before .before .before .before .before .before .before .before .before .before .before .before .check-into in
+    let r = c .before .before .before .before .before .before .before .r in
+    let number = c .before .before .before .before .before .number in
+    ((sym (check-into .ensures .0) ∙ ap replyOf (r .given .1) ∙ ap accepted (sym (number .ensures .0))), (subst⁻¹ (λ (m : ℕ). Ready (c .before .before .before .before .before .before .before .before .before .before .before .before .before .before .before .before .before .before .before .before .before .before .before .before .before .before .before .args .s .now) m (check-into .last .1 .0) (check-into .last .1 .1 .1 .0) (check-into .last .1 .1 .1 .1 .0) (check-into .last .1 .1 .1 .1 .1 .0)) (number .ensures .0) (check-into .ensures .1 (r .given .0 .0) (ap replyOf (r .given .1)))), record { names = omega (arith, c .before .before .before .before .before .before .before .before .before .before .before .before .before .before .before .before .before .before .before .before .before .before .before .before .no-names .ensures, c .before .before .before .before .before .before .before .before .before .before .before .before .before .vs2 .given); places = omega (arith, c .before .before .before .before .before .before .before .before .before .before .before .before .before .before .before .before .before .before .before .before .before .before .no-places .ensures, c .before .before .before .before .before .before .before .before .before .before .before .at2 .given); all = omega (arith, c .before .before .before .before .before .before .before .before .before .before .before .before .before .before .before .before .before .before .before .before .before .no-entries .ensures, c .before .before .before .before .before .before .before .before .before .before .ents2 .given) })
 
--- src/lib.rt:357:1
 same-length : tie.Need-same-length
 same-length c = search needs
 
--- src/lib.rt:357:1
 returns-2 : tie.Need-returns-2
 returns-2 c = search needs
 

@@ -18,37 +18,29 @@ Inv-loop s e sum₀ i₀ sum i = (i ≤ e) × (sum ≡ sumOf (take i s) % 65536)
 abbrev μ-loop : tie.MeasureT-loop
 μ-loop s e sum₀ i₀ sum i = e - i
 
--- src/lib.rt:30:5
 loop-holds : tie.Need-loop-holds Inv-loop μ-loop
 loop-holds c = (search needs, omega (arith, sum-none (c .before .args .s .now)))
 
--- src/lib.rt:31:52
 shared-slice-read-wide : tie.Need-shared-slice-read-wide Inv-loop μ-loop
 shared-slice-read-wide c = search needs
 
--- src/lib.rt:31:47
 wide-requires : tie.Need-wide-requires Inv-loop μ-loop
 wide-requires c κs = search needs
 
--- src/lib.rt:31:9
 wrapping-add-u16-requires : tie.Need-wrapping-add-u16-requires Inv-loop μ-loop
 wrapping-add-u16-requires c κs = search needs
 
--- src/lib.rt:32:9
 add-i : tie.Need-add-i Inv-loop μ-loop
 add-i c = search needs
 
--- src/lib.rt:30:5
 loop-less : tie.Need-loop-less Inv-loop μ-loop
 loop-less c = search needs
 
--- src/lib.rt:30:5
 loop-again : tie.Need-loop-again Inv-loop μ-loop
 loop-again c =
     let h = c .before .before .before .before in
     omega (arith, sum-step (h .before .before .args .s .now) (h .loop .i) (omega arith), c .wrapping-add-u16 .ensures, c .before .wide .ensures)
 
--- src/lib.rt:24:1
 returns : tie.Need-returns Inv-loop μ-loop
 returns c =
     let q : c .before .loop .i ≡ c .before .before .before .args .e = omega arith in

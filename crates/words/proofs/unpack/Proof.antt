@@ -19,39 +19,30 @@ Inv-loop s i n out₀ k₀ out k = (k ≤ n) × (length out ≡ length out₀) �
 abbrev μ-loop : tie.MeasureT-loop
 μ-loop s i n out₀ k₀ out k = n - k
 
--- src/lib.rt:43:5
 loop-holds : tie.Need-loop-holds Inv-loop μ-loop
 loop-holds c = (search needs, search needs, sym (words-none _ _))
 
--- src/lib.rt:44:30
 mul-word : tie.Need-mul-word Inv-loop μ-loop
 mul-word c = search needs
 
--- src/lib.rt:44:26
 add-word : tie.Need-add-word Inv-loop μ-loop
 add-word c = search needs
 
--- src/lib.rt:44:18
 word-requires : tie.Need-word-requires Inv-loop μ-loop
 word-requires c κs = search needs
 
--- src/lib.rt:44:9
 mul-out : tie.Need-mul-out Inv-loop μ-loop
 mul-out c = search needs
 
--- src/lib.rt:44:9
 slice-write-out : tie.Need-slice-write-out Inv-loop μ-loop
 slice-write-out c = search needs
 
--- src/lib.rt:45:9
 add-k : tie.Need-add-k Inv-loop μ-loop
 add-k c = search needs
 
--- src/lib.rt:43:5
 loop-less : tie.Need-loop-less Inv-loop μ-loop
 loop-less c = search needs
 
--- src/lib.rt:43:5
 loop-again : tie.Need-loop-again Inv-loop μ-loop
 loop-again c =
     let v = c .before .before .loop in
@@ -61,11 +52,9 @@ loop-again c =
       rw (add-one, take-suc-set (v .out) (v .k) (c .word .result) (omega arith), words-step (a .s .now) (v .k) (a .i), ← (v .inv .2), c .word .ensures),
     )
 
--- src/lib.rt:38:1
 same-length : tie.Need-same-length Inv-loop μ-loop
 same-length c = search needs
 
--- src/lib.rt:38:1
 returns : tie.Need-returns Inv-loop μ-loop
 returns c =
     let q : c .before .loop .k ≡ c .before .before .before .before .args .n = omega arith in
