@@ -3,7 +3,7 @@ use Prim.Native.Nat.{ℕ, _+_, _*_}
 use Rattle.placing.specs.declared.Record.{Record}
 use Rattle.placing.specs.declared.Standing.{Standing}
 use Rattle.placing.specs.declared.Standing.the-variants.{Waiting, OnContour, Covered}
-use Rattle.unit.specs.Replies.{Reply, accepted, refused}
+use Rattle.lamp.specs.Given.{Reply, accepted, refused}
 use Rattle.capi.specs.declared.PostReply.{PostReply}
 
 abbrev pub codeOf : Reply ℕ → ℕ

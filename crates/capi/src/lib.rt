@@ -1,14 +1,15 @@
 // The services as C functions, for firmware and for tests: include/pgb.h declares them.
 ghost use mathlib.Core.Path.{_≡_};
 ghost use Prim.Native.Nat.{_+_, _*_, _<_};
-ghost use Rattle.unit.specs.Replies.{accepted, refused, checkReply, sheetReply, bufferAfter, postReply};
-ghost use Rattle.unit.specs.Refusals.{numberOf, placeOf, replyOf};
+ghost use Rattle.lamp.specs.Given.{accepted, refused, checkReply};
+ghost use Rattle.unit.specs.Replies.{sheetReply, bufferAfter, postReply};
+ghost use Rattle.lamp.specs.Refusals.{numberOf, placeOf, replyOf};
 ghost use Rattle.capi.specs.Codes.{codeOf, standingOf, firstOf, secondOf, postOf};
 use placing::Record;
 use placing::Standing;
-use unit::Answer;
+use lamp::Answer;
+use lamp::Refusal;
 use unit::Posted;
-use unit::Refusal;
 
 // A post's reply: acceptance is 0, and the record's numbers stand beside it; a refusal has zeros there.
 #[repr(C)]

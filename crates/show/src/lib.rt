@@ -4,9 +4,9 @@ ghost use lib.ListN.{length};
 use libc::STDOUT_FILENO;
 use placing::Record;
 use placing::Standing;
-use unit::Answer;
+use lamp::Answer;
+use lamp::Refusal;
 use unit::Posted;
-use unit::Refusal;
 
 fn wide(x: u16) -> u64 {
     x as u64

@@ -16,13 +16,13 @@ use Rattle.placing.specs.Stages.{stage}
 use Rattle.placing.specs.Records.{recordOf, entriesOf}
 use Rattle.placing.specs.declared.Record.{Record}
 use Rattle.engine.specs.Found.{Accepted}
-use Rattle.unit.specs.Lamp.{Row, checkRows, stageRow, roomRow, nameRow, sheetRows, postRows}
-use Rattle.unit.specs.Replies.{Reply, accepted, refused, given, stageAt, checkReply, sheetReply, bufferFor, bufferAfter, postReply}
-use Rattle.unit.specs.Demands.{NoneApplies}
-use Rattle.unit.specs.Held.{Headed, Holds, Laid, Ready}
-use Rattle.unit.proofs.Given.{given-end, given-skip, given-stop, given-past, given-says, given-refused, refused-any}
-use Rattle.unit.proofs.Sounds.{laid}
-use Rattle.unit.proofs.Accepts.{none-passes}
+use Rattle.lamp.specs.Lamp.{Row, checkRows, stageRow, roomRow, nameRow, sheetRows, postRows}
+use Rattle.lamp.specs.Given.{Reply, accepted, refused, given, checkReply, NoneApplies}
+use Rattle.unit.specs.Replies.{stageAt, sheetReply, bufferFor, bufferAfter, postReply}
+use Rattle.lamp.specs.Held.{Headed, Holds, Laid, Ready}
+use Rattle.lamp.proofs.Given.{given-end, given-skip, given-stop, given-past, given-says, given-refused, refused-any}
+use Rattle.lamp.proofs.Sounds.{laid}
+use Rattle.lamp.proofs.Accepts.{none-passes}
 
 module _ (s : List ℕ) where
   check-none : (n : ℕ) → checkReply s ≡ accepted n → NoneApplies (checkRows s) s

@@ -12,14 +12,15 @@ use Rattle.rings.specs.Plane.{Plane}
 use Rattle.order.specs.Canonical.{Canonical}
 use Rattle.order.proofs.Sound.{Passes, passes-sound, sound-passes}
 use Rattle.placing.specs.Records.{recordOf, entriesOf}
-use Rattle.unit.specs.Lamp.{Row, blockRows, positionRows, checkRows, sheetRows, postRows}
-use Rattle.unit.specs.Replies.{Reply, accepted, refused, given, stageAt, checkReply, sheetReply, bufferFor, bufferAfter, postReply}
-use Rattle.unit.specs.Demands.{Services, thePaper, Accepted, Refused, NoneApplies, Fixed, accepts, refuses, Demand1, Sound, Demand2, Demand3}
-use Rattle.unit.specs.Held.{headRows}
-use Rattle.unit.proofs.Given.{given-none, given-says, given-fixed, fixed-one, not-both}
-use Rattle.unit.proofs.Heads.{framed}
-use Rattle.unit.proofs.Sounds.{accepted-is}
-use Rattle.unit.proofs.Accepts.{none-left, lists-count, none-passes, passes-none}
+use Rattle.lamp.specs.Lamp.{Row, blockRows, positionRows, checkRows, sheetRows, postRows}
+use Rattle.lamp.specs.Given.{Reply, accepted, refused, given, checkReply, NoneApplies, Fixed, accepts, refuses}
+use Rattle.unit.specs.Replies.{stageAt, sheetReply, bufferFor, bufferAfter, postReply}
+use Rattle.unit.specs.Demands.{Services, thePaper, Accepted, Refused, Demand1, Sound, Demand2, Demand3}
+use Rattle.lamp.specs.Held.{headRows}
+use Rattle.lamp.proofs.Given.{given-none, given-says, given-fixed, fixed-one, not-both}
+use Rattle.lamp.proofs.Heads.{framed}
+use Rattle.lamp.proofs.Sounds.{accepted-is}
+use Rattle.lamp.proofs.Accepts.{none-left, lists-count, none-passes, passes-none}
 use Rattle.unit.proofs.Third.{demand-3}
 
 -- a reply is an acceptance or a refusal

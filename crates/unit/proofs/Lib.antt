@@ -1,11 +1,5 @@
 pub mod Starred
-pub mod Given
-pub mod Heads
 pub mod Third
-pub mod Loads
-pub mod Rows
-pub mod Sounds
-pub mod Accepts
 pub mod Demanded
 pub mod Calls
 pub mod Written

@@ -9,8 +9,9 @@ use Rattle.rings.specs.Rings.{around, next, allNext, follows, entryRule, ringRu
 use Rattle.order.specs.Order.{twoPlaced, from, lead, rest, leads, oneRun, oneLater, begins, run}
 use Rattle.placing.specs.Stages.{third, upTo, onFrom, placeOver, place, placeAll, stage}
 use Rattle.placing.specs.Records.{leftOf, rightOf, standing, recordOf, entriesOf}
-use Rattle.unit.specs.Lamp.{blockRows, positionRows, checkRows, sheetRows, postRows}
-use Rattle.unit.specs.Replies.{given, stageAt, checkReply, sheetReply, bufferFor, bufferAfter, postReply}
+use Rattle.lamp.specs.Lamp.{blockRows, positionRows, checkRows, sheetRows, postRows}
+use Rattle.lamp.specs.Given.{given, checkReply}
+use Rattle.unit.specs.Replies.{stageAt, sheetReply, bufferFor, bufferAfter, postReply}
 use Rattle.unit.specs.Starred.{bytes, blockOf, T, D, starred, AllHold}
 
 pub starred-hold : AllHold starred

@@ -9,7 +9,8 @@ use Rattle.rings.specs.Plane.{Wire}
 use Rattle.order.proofs.Sound.{Passes}
 use Rattle.drawing.specs.Meeting.{OnGrid, NoneMeet}
 use Rattle.plane.proofs.Every.{grid-at, no-short-at, moves-at}
-use Rattle.unit.specs.Replies.{accepted, stageAt}
+use Rattle.lamp.specs.Given.{accepted}
+use Rattle.unit.specs.Replies.{stageAt}
 use Rattle.unit.specs.Demands.{Services, places, Placed, Moves, Demand3}
 
 -- a block's order passes the tests of steps 7 to 14, and its n is the number of its lists

@@ -23,12 +23,13 @@ use Rattle.placing.specs.Stages.{Stage, stage}
 use Rattle.placing.specs.Records.{entriesOf}
 use Rattle.placing.proofs.Steps.{stage-placed}
 use Rattle.drawing.specs.Meeting.{Places, Point, On, At, Same, End, OnGrid, NoneMeet}
-use Rattle.unit.specs.Lamp.{Row, checkRows, stageRow, roomRow, sheetRows}
-use Rattle.unit.specs.Replies.{Reply, accepted, refused, given, stageAt, sheetReply}
-use Rattle.unit.specs.Demands.{Services, thePaper, Accepted, NoneApplies, places, Placed, Moves, Demand2, positionOf, onSheet, Safe, SafeSheets}
-use Rattle.unit.proofs.Given.{given-says}
-use Rattle.unit.proofs.Sounds.{order-length}
-use Rattle.unit.proofs.Accepts.{none-left, none-right, lists-count, none-passes}
+use Rattle.lamp.specs.Lamp.{Row, checkRows, stageRow, roomRow, sheetRows}
+use Rattle.lamp.specs.Given.{Reply, accepted, refused, given, NoneApplies}
+use Rattle.unit.specs.Replies.{stageAt, sheetReply}
+use Rattle.unit.specs.Demands.{Services, thePaper, Accepted, places, Placed, Moves, Demand2, positionOf, onSheet, Safe, SafeSheets}
+use Rattle.lamp.proofs.Given.{given-says}
+use Rattle.lamp.proofs.Sounds.{order-length}
+use Rattle.lamp.proofs.Accepts.{none-left, none-right, lists-count, none-passes}
 use Rattle.unit.proofs.Third.{Passing, on-grid, no-short, moves}
 use Rattle.unit.proofs.Demanded.{second-demand}
 

@@ -1,9 +1,8 @@
 -- The three demands, as the teacher wrote them, of any unit with the three services.
 use Prim.Native.Nat.{ℕ, _+_, _*_, _-_, _≤_, _<_}
 use mathlib.Core.Path.{_≡_}
-use mathlib.Core.Bool.{Bool, true, false}
 use mathlib.Core.Logic.{_↔_}
-use mathlib.Core.List.{List, [], _∷_, _++_}
+use mathlib.Core.List.{List, _++_}
 use lib.Dec.{eqb}
 use lib.ListN.{length, getD, take, drop}
 use Rattle.words.specs.First.{first}
@@ -16,8 +15,9 @@ use Rattle.placing.specs.Stages.{Stage, stage}
 use Rattle.placing.specs.Records.{recordOf, entriesOf}
 use Rattle.placing.specs.declared.Record.{Record}
 use Rattle.drawing.specs.Meeting.{Places, OnGrid, NoneMeet}
-use Rattle.unit.specs.Lamp.{Row, checkRows, sheetRows, postRows}
-use Rattle.unit.specs.Replies.{Reply, accepted, refused, stageAt, checkReply, sheetReply, bufferAfter, postReply}
+use Rattle.lamp.specs.Lamp.{checkRows, sheetRows, postRows}
+use Rattle.lamp.specs.Given.{Reply, accepted, refused, checkReply, Fixed}
+use Rattle.unit.specs.Replies.{stageAt, sheetReply, bufferAfter, postReply}
 
 -- A unit: what each service replies to everything that may be handed in, and the sheet buffer after a sheet call. A block is a list of bytes, a
 -- buffer the list of its entries; stages and names are any whole numbers.
@@ -38,18 +38,6 @@ abbrev pub Refused : {A : Type 0} → Reply A → Type 0
 Refused r = (number place : ℕ) × (r ≡ refused number place)
 
 -- ---- 1. Every input gets a defined reply.
-
--- none of these rows applies
-abbrev pub NoneApplies : List Row → List ℕ → Type 0
-NoneApplies [] s = Unit {0}
-NoneApplies (r ∷ rows) s = (r .when s ≡ false) × NoneApplies rows s
-
--- The reply that the table fixes, in its order: a refusal is the number and place of a row that applies while none before it does; and
--- acceptance means that none applies.
-pub data Fixed {A : Type 0} (rows : List Row) (s : List ℕ) (answer : A) : Reply A → Type 0 where
-  accepts : NoneApplies rows s → Fixed rows s answer (accepted answer)
-  refuses : (before : List Row) (r : Row) (after : List Row) → rows ≡ before ++ r ∷ after → NoneApplies before s → r .when s ≡ true
-      → Fixed rows s answer (refused (r .number) (r .place s))
 
 pub record Demand1 (U : Services) : Type 0 where
   -- the unit accepts or gives the refusal and place the paper fixes, in its order

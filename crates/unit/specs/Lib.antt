@@ -1,6 +1,3 @@
-pub mod Lamp
 pub mod Replies
-pub mod Refusals
 pub mod Demands
 pub mod Starred
-pub mod Held

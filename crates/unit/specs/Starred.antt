@@ -7,7 +7,8 @@ use Rattle.placing.specs.declared.Record.{Record}
 use Rattle.placing.specs.declared.Standing.the-variants.{Waiting, OnContour, Covered}
 use Rattle.block.specs.Block.{mark}
 use Rattle.rings.specs.Boards.{orderT, listsT, orderD, listsD}
-use Rattle.unit.specs.Replies.{Reply, accepted, refused, checkReply, sheetReply, bufferAfter, postReply}
+use Rattle.lamp.specs.Given.{Reply, accepted, refused, checkReply}
+use Rattle.unit.specs.Replies.{sheetReply, bufferAfter, postReply}
 
 -- a block from its order, its lists and its sum
 unfoldable pub bytes : List ℕ → List ℕ

@@ -6,7 +6,8 @@ use Rattle.capi.proofs.code.Lts as lts
 use Rattle.capi.proofs.refusal_code.Reads as refusal-code-reads
 use mathlib.Core.Path.{_≡_, refl, sym, ap, _∙_}
 use Rattle.capi.specs.Codes.{codeOf, postOf}
-use Rattle.unit.specs.Refusals.{replyOf, postedOf}
+use Rattle.lamp.specs.Refusals.{replyOf}
+use Rattle.unit.specs.Replies.{postedOf}
 
 enum-known-a : tie.Need-enum-known-a
 enum-known-a c = search needs

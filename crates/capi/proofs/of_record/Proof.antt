@@ -8,7 +8,8 @@ use Rattle.capi.proofs.second.Reads as second-reads
 use Rattle.capi.proofs.standing_code.Reads as standing-code-reads
 use mathlib.Core.Path.{_≡_, refl, sym, ap, _∙_}
 use Rattle.capi.specs.Codes.{codeOf, postOf}
-use Rattle.unit.specs.Refusals.{replyOf, postedOf}
+use Rattle.lamp.specs.Refusals.{replyOf}
+use Rattle.unit.specs.Replies.{postedOf}
 
 standing-code-requires : tie.Need-standing-code-requires
 standing-code-requires c κs = search needs

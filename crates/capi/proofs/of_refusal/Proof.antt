@@ -6,7 +6,8 @@ use Rattle.capi.proofs.of_refusal.Lts as lts
 use Rattle.capi.proofs.refusal_code.Reads as refusal-code-reads
 use mathlib.Core.Path.{_≡_, refl, sym, ap, _∙_}
 use Rattle.capi.specs.Codes.{codeOf, postOf}
-use Rattle.unit.specs.Refusals.{replyOf, postedOf}
+use Rattle.lamp.specs.Refusals.{replyOf}
+use Rattle.unit.specs.Replies.{postedOf}
 
 refusal-code-requires : tie.Need-refusal-code-requires
 refusal-code-requires c κs = search needs

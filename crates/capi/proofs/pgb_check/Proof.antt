@@ -7,7 +7,8 @@ use Rattle.capi.proofs.code.Reads as code-reads
 use Rattle.unit.proofs.check.Reads as check-reads
 use mathlib.Core.Path.{_≡_, refl, sym, ap, _∙_}
 use Rattle.capi.specs.Codes.{codeOf, postOf}
-use Rattle.unit.specs.Refusals.{replyOf, postedOf}
+use Rattle.lamp.specs.Refusals.{replyOf}
+use Rattle.unit.specs.Replies.{postedOf}
 
 check-requires : tie.Need-check-requires
 check-requires c κs = search needs

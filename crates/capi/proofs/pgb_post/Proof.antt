@@ -8,7 +8,8 @@ use Rattle.capi.proofs.of_refusal.Reads as of-refusal-reads
 use Rattle.unit.proofs.post.Reads as post-reads
 use mathlib.Core.Path.{_≡_, refl, sym, ap, _∙_}
 use Rattle.capi.specs.Codes.{codeOf, postOf}
-use Rattle.unit.specs.Refusals.{replyOf, postedOf}
+use Rattle.lamp.specs.Refusals.{replyOf}
+use Rattle.unit.specs.Replies.{postedOf}
 
 post-requires : tie.Need-post-requires
 post-requires c κs = search needs

@@ -3,7 +3,7 @@ use Rattle.unit.proofs.post.Statement.{statement}
 use Rattle.unit.proofs.post.Tie as tie
 use Rattle.unit.proofs.post.Reads as reads
 use Rattle.unit.proofs.post.Lts as lts
-use Rattle.unit.proofs.check_into.Reads as check-into-reads
+use Rattle.lamp.proofs.check_into.Reads as check-into-reads
 use Rattle.unit.proofs.no_entries.Reads as no-entries-reads
 use Rattle.unit.proofs.no_names.Reads as no-names-reads
 use Rattle.unit.proofs.no_places.Reads as no-places-reads
@@ -20,9 +20,10 @@ use Rattle.rings.specs.Held.{held}
 use Rattle.engine.specs.Found.{Accepted}
 use Rattle.placing.specs.Stages.{Stage, stage}
 use Rattle.placing.specs.Records.{recordOf, entriesOf}
-use Rattle.unit.specs.Replies.{accepted, checkReply, stageAt}
-use Rattle.unit.specs.Refusals.{numberOf, placeOf, replyOf}
-use Rattle.unit.specs.Held.{Ready}
+use Rattle.lamp.specs.Given.{accepted, checkReply}
+use Rattle.unit.specs.Replies.{stageAt}
+use Rattle.lamp.specs.Refusals.{numberOf, placeOf, replyOf}
+use Rattle.lamp.specs.Held.{Ready}
 use Rattle.unit.proofs.Calls.{post-refused}
 
 no-names-requires : tie.Need-no-names-requires

@@ -16,9 +16,10 @@ use Rattle.rings.specs.Held.{held}
 use Rattle.engine.specs.Found.{Accepted}
 use Rattle.placing.specs.Stages.{Stage, stage}
 use Rattle.placing.specs.Records.{recordOf, entriesOf}
-use Rattle.unit.specs.Replies.{accepted, checkReply, stageAt}
-use Rattle.unit.specs.Refusals.{numberOf, placeOf, replyOf}
-use Rattle.unit.specs.Held.{Ready}
+use Rattle.lamp.specs.Given.{accepted, checkReply}
+use Rattle.unit.specs.Replies.{stageAt}
+use Rattle.lamp.specs.Refusals.{numberOf, placeOf, replyOf}
+use Rattle.lamp.specs.Held.{Ready}
 use Rattle.unit.proofs.Calls.{sheet-low, sheet-high, sheet-room, sheet-fine, buffer-kept, buffer-written, length-is, to-engine, stage-is}
 
 returns : tie.Need-returns

@@ -21,11 +21,11 @@ use Rattle.rings.specs.Plane.{Plane}
 use Rattle.order.specs.Order.{twoPlaced, oneRun, oneLater}
 use Rattle.order.specs.Canonical.{Canonical}
 use Rattle.order.proofs.Sound.{Passes}
-use Rattle.unit.specs.Lamp.{Row, blockRows, positionRows, checkRows, ringFault, triangleFault}
-use Rattle.unit.specs.Demands.{NoneApplies}
-use Rattle.unit.specs.Held.{headRows, listRows, ringRows}
-use Rattle.unit.proofs.Heads.{framed, framed-none}
-use Rattle.unit.proofs.Sounds.{order-length}
+use Rattle.lamp.specs.Lamp.{Row, blockRows, positionRows, checkRows, ringFault, triangleFault}
+use Rattle.lamp.specs.Given.{NoneApplies}
+use Rattle.lamp.specs.Held.{headRows, listRows, ringRows}
+use Rattle.lamp.proofs.Heads.{framed, framed-none}
+use Rattle.lamp.proofs.Sounds.{order-length}
 
 -- ---- the lists are as long as the degrees say
 

@@ -1,8 +1,8 @@
 use borrow.Author.Needs.{needs}
-use Rattle.unit.proofs.load.Statement.{statement}
-use Rattle.unit.proofs.load.Tie as tie
-use Rattle.unit.proofs.load.Reads as reads
-use Rattle.unit.proofs.load.Lts as lts
+use Rattle.lamp.proofs.load.Statement.{statement}
+use Rattle.lamp.proofs.load.Tie as tie
+use Rattle.lamp.proofs.load.Reads as reads
+use Rattle.lamp.proofs.load.Lts as lts
 use Rattle.block.proofs.Block.entries.Reads as entries-reads
 use Rattle.block.proofs.read_degrees.Reads as read-degrees-reads
 use Rattle.block.proofs.read_order.Reads as read-order-reads
@@ -16,8 +16,8 @@ use Rattle.words.specs.Numbers.{sumOf}
 use Rattle.block.specs.Layout.{entries}
 use Rattle.block.specs.Block.{posts, order, degrees}
 use Rattle.rings.proofs.Read.{degrees-count}
-use Rattle.unit.proofs.Given.{not-both}
-use Rattle.unit.proofs.Loads.{list-order, list-degree, list-total, list-fine}
+use Rattle.lamp.proofs.Given.{not-both}
+use Rattle.lamp.proofs.Loads.{list-order, list-degree, list-total, list-fine}
 
 read-order-requires : tie.Need-read-order-requires
 read-order-requires c κs = search needs

@@ -1,8 +1,8 @@
 use borrow.Author.Needs.{needs}
-use Rattle.unit.proofs.position.Statement.{statement}
-use Rattle.unit.proofs.position.Tie as tie
-use Rattle.unit.proofs.position.Reads as reads
-use Rattle.unit.proofs.position.Lts as lts
+use Rattle.lamp.proofs.position.Statement.{statement}
+use Rattle.lamp.proofs.position.Tie as tie
+use Rattle.lamp.proofs.position.Reads as reads
+use Rattle.lamp.proofs.position.Lts as lts
 use Rattle.order.proofs.rule_at.Reads as rule-at-reads
 use native.Mathlib.Omega.{arith}
 use Prim.Native.Nat.{ℕ, _≤_, _<_}
@@ -14,7 +14,7 @@ use Rattle.words.specs.Positions.{post}
 use Rattle.block.specs.Block.{order, lists}
 use Rattle.rings.specs.Rings.{ringRule}
 use Rattle.rings.specs.Held.{held}
-use Rattle.unit.proofs.Rows.{answerAt, position-found, rule-needs}
+use Rattle.lamp.proofs.Rows.{answerAt, position-found, rule-needs}
 use Rattle.order.specs.declared.Fit.the-variants.{Good, Few, Broken, Last}
 
 rule-at-requires : tie.Need-rule-at-requires

@@ -1,14 +1,14 @@
 use borrow.Author.Needs.{needs}
-use Rattle.unit.proofs.board.Statement.{statement}
-use Rattle.unit.proofs.board.Tie as tie
-use Rattle.unit.proofs.board.Reads as reads
-use Rattle.unit.proofs.board.Lts as lts
+use Rattle.lamp.proofs.board.Statement.{statement}
+use Rattle.lamp.proofs.board.Tie as tie
+use Rattle.lamp.proofs.board.Reads as reads
+use Rattle.lamp.proofs.board.Lts as lts
 use Rattle.rings.proofs.first_bad_ring.Reads as first-bad-ring-reads
 use Rattle.rings.proofs.first_bad_triangle.Reads as first-bad-triangle-reads
 use Rattle.rings.proofs.is_outer.Reads as is-outer-reads
 use native.Mathlib.Omega.{arith}
 use borrow.Author.Tests.{not-true, not-false}
-use Rattle.unit.proofs.Rows.{rings-bad, triangles-bad, outer-bad, outer-fine}
+use Rattle.lamp.proofs.Rows.{rings-bad, triangles-bad, outer-bad, outer-fine}
 
 first-bad-ring-requires : tie.Need-first-bad-ring-requires
 first-bad-ring-requires c κs = search needs

@@ -4,9 +4,8 @@ use mathlib.Core.Bool.{Bool, true, false, true≢false}
 use mathlib.Core.List.{List, [], _∷_, _++_, append-nil}
 use Prim.Native.Nat.{ℕ}
 use native.Mathlib.Omega.{arith}
-use Rattle.unit.specs.Lamp.{Row}
-use Rattle.unit.specs.Replies.{Reply, accepted, refused, given}
-use Rattle.unit.specs.Demands.{NoneApplies, Fixed, accepts, refuses}
+use Rattle.lamp.specs.Lamp.{Row}
+use Rattle.lamp.specs.Given.{Reply, accepted, refused, given, NoneApplies, Fixed, accepts, refuses}
 
 module _ {A : Type 0} (s : List ℕ) (answer : List ℕ → A) where
   pub given-end : given [] s answer ≡ accepted (answer s)

@@ -12,11 +12,10 @@ use Rattle.words.specs.Numbers.{wordAt}
 use Rattle.words.proofs.Tests.{neither}
 use Rattle.block.specs.Layout.{limit, size}
 use Rattle.block.specs.Block.{mark, version, posts, statedSum, earlierSum, marked, Framed}
-use Rattle.unit.specs.Lamp.{Row, blockRows}
-use Rattle.unit.specs.Replies.{Reply, accepted, refused, given}
-use Rattle.unit.specs.Demands.{NoneApplies}
-use Rattle.unit.specs.Held.{headRows, Headed}
-use Rattle.unit.proofs.Given.{given-end, given-skip, given-stop, given-none, given-says}
+use Rattle.lamp.specs.Lamp.{Row, blockRows}
+use Rattle.lamp.specs.Given.{Reply, accepted, refused, given, NoneApplies}
+use Rattle.lamp.specs.Held.{headRows, Headed}
+use Rattle.lamp.proofs.Given.{given-end, given-skip, given-stop, given-none, given-says}
 
 both-true : (x y : Bool) → x && y ≡ true → (x ≡ true) × (y ≡ true)
 both-true true y e = (refl, e)

@@ -1,19 +1,19 @@
-use Rattle.unit.proofs.fitting.Statement.{statement}
-use Rattle.unit.proofs.fitting.Tie as tie
-use Rattle.unit.proofs.fitting.Reads as reads
-use Rattle.unit.proofs.fitting.Lts as lts
-use Rattle.unit.proofs.position.Reads as position-reads
+use Rattle.lamp.proofs.fitting.Statement.{statement}
+use Rattle.lamp.proofs.fitting.Tie as tie
+use Rattle.lamp.proofs.fitting.Reads as reads
+use Rattle.lamp.proofs.fitting.Lts as lts
+use Rattle.lamp.proofs.position.Reads as position-reads
 use native.Mathlib.Omega.{arith}
 use Prim.Native.Nat.{ℕ, _+_, _-_, _≤_, _<_}
 use mathlib.Core.Path.{_≡_, refl, sym, ap, _∙_}
 use lib.ListN.{length}
 use Rattle.block.specs.Block.{posts}
-use Rattle.unit.specs.Lamp.{positionRows}
-use Rattle.unit.specs.Replies.{Reply, accepted, refused, given}
-use Rattle.unit.specs.Refusals.{numberOf, placeOf, replyOf}
-use Rattle.unit.specs.Held.{rowsFrom}
-use Rattle.unit.proofs.Given.{given-end}
-use Rattle.unit.proofs.Rows.{rows-refused, rows-passed, rows-end}
+use Rattle.lamp.specs.Lamp.{positionRows}
+use Rattle.lamp.specs.Given.{Reply, accepted, refused, given}
+use Rattle.lamp.specs.Refusals.{numberOf, placeOf, replyOf}
+use Rattle.lamp.specs.Held.{rowsFrom}
+use Rattle.lamp.proofs.Given.{given-end}
+use Rattle.lamp.proofs.Rows.{rows-refused, rows-passed, rows-end}
 use borrow.Author.Needs.{needs}
 
 abbrev Inv-loop : tie.InvT-loop

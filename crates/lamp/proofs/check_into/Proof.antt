@@ -1,12 +1,12 @@
 use borrow.Author.Needs.{needs}
-use Rattle.unit.proofs.check_into.Statement.{statement}
-use Rattle.unit.proofs.check_into.Tie as tie
-use Rattle.unit.proofs.check_into.Reads as reads
-use Rattle.unit.proofs.check_into.Lts as lts
+use Rattle.lamp.proofs.check_into.Statement.{statement}
+use Rattle.lamp.proofs.check_into.Tie as tie
+use Rattle.lamp.proofs.check_into.Reads as reads
+use Rattle.lamp.proofs.check_into.Lts as lts
 use Rattle.block.proofs.Block.entries.Reads as entries-reads
-use Rattle.unit.proofs.header.Reads as header-reads
-use Rattle.unit.proofs.load.Reads as load-reads
-use Rattle.unit.proofs.order_and_board.Reads as order-and-board-reads
+use Rattle.lamp.proofs.header.Reads as header-reads
+use Rattle.lamp.proofs.load.Reads as load-reads
+use Rattle.lamp.proofs.order_and_board.Reads as order-and-board-reads
 use Rattle.words.proofs.number.Reads as number-reads
 use native.Mathlib.Omega.{arith}
 use Prim.Native.Nat.{ℕ, _+_, _≤_, _<_}
@@ -16,12 +16,11 @@ use lib.ListN.{length, take}
 use lib.Seq.{length-take-le}
 use Rattle.block.specs.Layout.{limit, entries}
 use Rattle.block.specs.Block.{posts, order}
-use Rattle.unit.specs.Replies.{accepted, given}
-use Rattle.unit.specs.Refusals.{numberOf, placeOf, replyOf}
-use Rattle.unit.specs.Held.{headRows, listRows, ringRows, rowsFrom, Headed, Holds, Laid}
-use Rattle.unit.proofs.Given.{not-both}
-use Rattle.unit.proofs.Sounds.{entered, laid, part-refused, part-passed, part-none, whole-table, headed-as}
-use Rattle.unit.proofs.Sounds.{entered, laid, part-refused, part-passed, part-none, whole-table, headed-as, accepted-is, ready}
+use Rattle.lamp.specs.Given.{accepted, given}
+use Rattle.lamp.specs.Refusals.{numberOf, placeOf, replyOf}
+use Rattle.lamp.specs.Held.{headRows, listRows, ringRows, rowsFrom, Headed, Holds, Laid}
+use Rattle.lamp.proofs.Given.{not-both}
+use Rattle.lamp.proofs.Sounds.{entered, laid, part-refused, part-passed, part-none, whole-table, headed-as, accepted-is, ready}
 
 header-requires : tie.Need-header-requires
 header-requires c κs = search needs

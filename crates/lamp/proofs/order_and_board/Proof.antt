@@ -1,11 +1,11 @@
 use borrow.Author.Needs.{needs}
-use Rattle.unit.proofs.order_and_board.Statement.{statement}
-use Rattle.unit.proofs.order_and_board.Tie as tie
-use Rattle.unit.proofs.order_and_board.Reads as reads
-use Rattle.unit.proofs.order_and_board.Lts as lts
+use Rattle.lamp.proofs.order_and_board.Statement.{statement}
+use Rattle.lamp.proofs.order_and_board.Tie as tie
+use Rattle.lamp.proofs.order_and_board.Reads as reads
+use Rattle.lamp.proofs.order_and_board.Lts as lts
 use Rattle.order.proofs.ranks.Reads as ranks-reads
-use Rattle.unit.proofs.board.Reads as board-reads
-use Rattle.unit.proofs.fitting.Reads as fitting-reads
+use Rattle.lamp.proofs.board.Reads as board-reads
+use Rattle.lamp.proofs.fitting.Reads as fitting-reads
 use native.Mathlib.Omega.{arith}
 use Prim.Native.Nat.{ℕ, _+_, _≤_, _<_}
 use mathlib.Core.Path.{_≡_, refl, sym, ap, _∙_, subst, subst⁻¹}
@@ -14,11 +14,11 @@ use mathlib.Core.List.{List, _++_}
 use lib.ListN.{length}
 use Rattle.block.specs.Block.{posts, order, badEntry}
 use Rattle.order.specs.Held.{Ranked}
-use Rattle.unit.specs.Replies.{given}
-use Rattle.unit.specs.Refusals.{numberOf, placeOf, replyOf}
-use Rattle.unit.specs.Held.{ringRows, rowsFrom}
-use Rattle.unit.proofs.Given.{not-both}
-use Rattle.unit.proofs.Sounds.{ringed, part-refused, part-passed, part-none, entries-of}
+use Rattle.lamp.specs.Given.{given}
+use Rattle.lamp.specs.Refusals.{numberOf, placeOf, replyOf}
+use Rattle.lamp.specs.Held.{ringRows, rowsFrom}
+use Rattle.lamp.proofs.Given.{not-both}
+use Rattle.lamp.proofs.Sounds.{ringed, part-refused, part-passed, part-none, entries-of}
 
 board-requires : tie.Need-board-requires
 board-requires c κs = search needs

@@ -14,15 +14,14 @@ use Rattle.block.specs.Layout.{limit, entries}
 use Rattle.block.specs.Block.{posts, order, lists, badEntry}
 use Rattle.rings.specs.Rings.{ringRule}
 use Rattle.order.specs.Held.{Ranked}
-use Rattle.unit.specs.Lamp.{Row, blockRows, positionRows, checkRows, ringFault}
-use Rattle.unit.specs.Replies.{Reply, accepted, refused, given, checkReply}
-use Rattle.unit.specs.Demands.{NoneApplies}
-use Rattle.unit.specs.Held.{headRows, listRows, ringRows, rowsFrom, Headed, Wide, Holds, Laid, Entered, Ringed, Ready}
-use Rattle.unit.specs.Refusals.{replyOf}
-use Rattle.unit.specs.declared.Answer.{Answer}
-use Rattle.unit.specs.declared.Answer.the-variants.{Accepted}
-use Rattle.unit.proofs.Given.{given-past, given-none, given-says, given-refused}
-use Rattle.unit.proofs.Heads.{headed}
+use Rattle.lamp.specs.Lamp.{Row, blockRows, positionRows, checkRows, ringFault}
+use Rattle.lamp.specs.Given.{Reply, accepted, refused, given, checkReply, NoneApplies}
+use Rattle.lamp.specs.Held.{headRows, listRows, ringRows, rowsFrom, Headed, Wide, Holds, Laid, Entered, Ringed, Ready}
+use Rattle.lamp.specs.Refusals.{replyOf}
+use Rattle.lamp.specs.declared.Answer.{Answer}
+use Rattle.lamp.specs.declared.Answer.the-variants.{Accepted}
+use Rattle.lamp.proofs.Given.{given-past, given-none, given-says, given-refused}
+use Rattle.lamp.proofs.Heads.{headed}
 
 module _ (s : List ℕ) where
   pub order-length : length (order s) ≡ posts s

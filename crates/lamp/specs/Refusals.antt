@@ -1,12 +1,10 @@
 -- The refusals that the services give, with the paper's number and place for each; and the replies they stand for.
 use Prim.Native.Nat.{ℕ}
-use Rattle.unit.specs.Replies.{Reply, accepted, refused}
-use Rattle.unit.specs.declared.Refusal.{Refusal}
-use Rattle.unit.specs.declared.Refusal.the-variants.{Short, Mark, Version, Posts, Length, Sum, Order, Degrees, Ring, Triangle, Outer, Few, Broken, Last, Stage, Room, Name}
-use Rattle.placing.specs.declared.Record.{Record}
-use Rattle.unit.specs.declared.Posted.{Posted}
-use Rattle.unit.specs.declared.Answer.{Answer}
-use Rattle.unit.specs.declared.Answer.the-variants.{Accepted, Refused}
+use Rattle.lamp.specs.Given.{Reply, accepted, refused}
+use Rattle.lamp.specs.declared.Refusal.{Refusal}
+use Rattle.lamp.specs.declared.Refusal.the-variants.{Short, Mark, Version, Posts, Length, Sum, Order, Degrees, Ring, Triangle, Outer, Few, Broken, Last, Stage, Room, Name}
+use Rattle.lamp.specs.declared.Answer.{Answer}
+use Rattle.lamp.specs.declared.Answer.the-variants.{Accepted, Refused}
 
 abbrev pub numberOf : Refusal → ℕ
 numberOf Short = 1
@@ -50,8 +48,3 @@ placeOf Name = 0
 abbrev pub replyOf : Answer → Reply ℕ
 replyOf (Accepted n) = accepted n
 replyOf (Refused r) = refused (numberOf r) (placeOf r)
-
--- the reply of post: the record, or the refusal's number and place
-abbrev pub postedOf : Posted → Reply Record
-postedOf (Posted.Accepted r) = accepted r
-postedOf (Posted.Refused f) = refused (numberOf f) (placeOf f)

@@ -11,10 +11,10 @@ use Rattle.words.specs.First.{first, some}
 use Rattle.words.proofs.First.{first-is}
 use Rattle.block.specs.Layout.{entries}
 use Rattle.block.specs.Block.{posts, order, degrees, badEntry, badDegree}
-use Rattle.unit.specs.Lamp.{blockRows}
-use Rattle.unit.specs.Replies.{Reply, accepted, refused, given}
-use Rattle.unit.specs.Held.{listRows}
-use Rattle.unit.proofs.Given.{given-end, given-skip, given-stop}
+use Rattle.lamp.specs.Lamp.{blockRows}
+use Rattle.lamp.specs.Given.{Reply, accepted, refused, given}
+use Rattle.lamp.specs.Held.{listRows}
+use Rattle.lamp.proofs.Given.{given-end, given-skip, given-stop}
 
 module _ (s : List ℕ) (n : ℕ) (is : n ≡ posts s) (k : ℕ) (ek : k ≡ first 1 n (badEntry n (order s))) where
   k-is : k ≡ first 1 (posts s) (badEntry (posts s) (order s))

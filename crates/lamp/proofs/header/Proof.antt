@@ -1,8 +1,8 @@
 use borrow.Author.Needs.{needs}
-use Rattle.unit.proofs.header.Statement.{statement}
-use Rattle.unit.proofs.header.Tie as tie
-use Rattle.unit.proofs.header.Reads as reads
-use Rattle.unit.proofs.header.Lts as lts
+use Rattle.lamp.proofs.header.Statement.{statement}
+use Rattle.lamp.proofs.header.Tie as tie
+use Rattle.lamp.proofs.header.Reads as reads
+use Rattle.lamp.proofs.header.Lts as lts
 use Rattle.block.proofs.Block.size.Reads as size-reads
 use Rattle.block.proofs.Block.sum_at.Reads as sum-at-reads
 use Rattle.block.proofs.is_marked.Reads as is-marked-reads
@@ -16,10 +16,10 @@ use mathlib.Core.Bool.{Bool, true, false, not}
 use borrow.Author.Tests.{not-true, not-false}
 use Rattle.words.specs.Numbers.{wordAt, wrapped}
 use lib.ListN.{take}
-use Rattle.unit.specs.Replies.{accepted}
+use Rattle.lamp.specs.Given.{accepted}
 use Rattle.block.specs.Layout.{limit, sumAt, size}
 use Rattle.block.specs.Block.{version, posts, statedSum, earlierSum, marked}
-use Rattle.unit.proofs.Heads.{head-short, head-mark, head-version, head-few, head-many, head-length, head-sum, head-fine}
+use Rattle.lamp.proofs.Heads.{head-short, head-mark, head-version, head-few, head-many, head-length, head-sum, head-fine}
 
 returns : tie.Need-returns
 returns c = head-short (c .before .before .args .s .now) (c .if1 .taken)

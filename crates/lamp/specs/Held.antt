@@ -10,7 +10,7 @@ use Rattle.block.specs.Block.{posts, order, lists, badEntry}
 use Rattle.rings.specs.Rings.{ringRule}
 use Rattle.rings.specs.Held.{held, Cuts}
 use Rattle.order.specs.Held.{Ranked}
-use Rattle.unit.specs.Lamp.{Row, blockRows, positionRows}
+use Rattle.lamp.specs.Lamp.{Row, blockRows, positionRows}
 
 -- the table's rows in the parts in which the code tries them: 1 to 6, 7 and 8, 9 to 11; and 12 to 14 at the positions from k on
 abbrev pub headRows : List Row

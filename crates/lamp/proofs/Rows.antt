@@ -18,11 +18,11 @@ use Rattle.order.specs.Order.{twoPlaced, oneRun, oneLater}
 use Rattle.order.specs.Held.{fitOf}
 use Rattle.order.specs.declared.Fit.{Fit}
 use Rattle.order.specs.declared.Fit.the-variants.{Good, Few, Broken, Last}
-use Rattle.unit.specs.Lamp.{Row, blockRows, positionRows, ringFault, triangleFault}
-use Rattle.unit.specs.Replies.{Reply, accepted, refused, given}
+use Rattle.lamp.specs.Lamp.{Row, blockRows, positionRows, ringFault, triangleFault}
+use Rattle.lamp.specs.Given.{Reply, accepted, refused, given}
 use Rattle.order.proofs.Sound.{position-says}
-use Rattle.unit.specs.Held.{ringRows, rowsFrom, Headed, Laid, Ringed}
-use Rattle.unit.proofs.Given.{given-end, given-skip, given-stop, given-past, given-says, given-refused, refused-any}
+use Rattle.lamp.specs.Held.{ringRows, rowsFrom, Headed, Laid, Ringed}
+use Rattle.lamp.proofs.Given.{given-end, given-skip, given-stop, given-past, given-says, given-refused, refused-any}
 
 -- the first of n names, or n: whether there is one
 module _ (p : ℕ → Bool) (u n : ℕ) (e : u ≡ first 0 n p) where

@@ -1,0 +1,6 @@
+pub mod Given
+pub mod Heads
+pub mod Loads
+pub mod Rows
+pub mod Sounds
+pub mod Accepts

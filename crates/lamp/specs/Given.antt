@@ -1,0 +1,33 @@
+-- What the table gives: the first row that applies, or acceptance.
+use Prim.Native.Nat.{ℕ}
+use mathlib.Core.Path.{_≡_}
+use mathlib.Core.Bool.{Bool, true, false}
+use mathlib.Core.List.{List, [], _∷_, _++_}
+use Rattle.block.specs.Block.{posts}
+use Rattle.lamp.specs.Lamp.{Row, checkRows}
+
+-- acceptance with what is answered, or a refusal's number and place
+pub data Reply (A : Type 0) : Type 0 where
+  accepted : A → Reply A
+  refused : ℕ → ℕ → Reply A
+
+-- The first row that applies is given, and given only then; if none applies, the call is accepted.
+unfoldable pub given : {A : Type 0} → List Row → List ℕ → (List ℕ → A) → Reply A
+given [] s answer = accepted (answer s)
+given (r ∷ rows) s answer = elim (r .when s) [ true ↦ refused (r .number) (r .place s) | false ↦ given rows s answer ]
+
+-- check: accepted with n
+unfoldable pub checkReply : List ℕ → Reply ℕ
+checkReply s = given (checkRows s) s posts
+
+-- none of these rows applies
+abbrev pub NoneApplies : List Row → List ℕ → Type 0
+NoneApplies [] s = Unit {0}
+NoneApplies (r ∷ rows) s = (r .when s ≡ false) × NoneApplies rows s
+
+-- The reply that the table fixes, in its order: a refusal is the number and place of a row that applies while none before it does; and
+-- acceptance means that none applies.
+pub data Fixed {A : Type 0} (rows : List Row) (s : List ℕ) (answer : A) : Reply A → Type 0 where
+  accepts : NoneApplies rows s → Fixed rows s answer (accepted answer)
+  refuses : (before : List Row) (r : Row) (after : List Row) → rows ≡ before ++ r ∷ after → NoneApplies before s → r .when s ≡ true
+      → Fixed rows s answer (refused (r .number) (r .place s))

@@ -1,0 +1,4 @@
+pub mod Lamp
+pub mod Given
+pub mod Refusals
+pub mod Held
