@@ -1,10 +1,10 @@
 -- The code that puts v over a run, from what its parts ensure: far is the sum and 2, d and h the halves.
-use Prim.Native.Nat.{ℕ, zero, suc, _+_, _-_, _≤_, _<_}
-use mathlib.Core.Path.{_≡_, refl, ap, sym, _∙_, subst, subst⁻¹}
-use mathlib.Core.List.{List, [], _∷_, _++_}
+use Prim.Native.Nat.{ℕ, _+_, _-_, _≤_}
+use mathlib.Core.Path.{_≡_, refl, _∙_}
+use mathlib.Core.List.{List}
 use native.Mathlib.Omega.{arith}
-use lib.ListN.{length, getD, set, length-set}
-use Rattle.arrays.specs.Arrays.{bias, path, walk, along, Below, covered, hung, Fits, runEnd, farAt, innerAt, dropOf, riseOf, newOff, newHeight, Ready, Over}
+use lib.ListN.{length, getD, set}
+use Rattle.arrays.specs.Arrays.{bias, path, walk, along, Below, covered, hung, Fits, dropOf, riseOf, newOff, Ready, Over}
 
 module _ (v p m : ℕ) (ys off cover left right : List ℕ) (R : Ready v p m ys off cover left right) (end sum i j : ℕ)
     (e1 : end ≡ walk right p (m - 1)) (e2 : sum ≡ along off (path right (getD right p 0) (m - 1))) (ei : i ≡ p) (ej : j ≡ end) where

@@ -1,16 +1,16 @@
 -- Loops that read a stage: what one turn more does.
-use Prim.Native.Nat.{ℕ, zero, suc, _+_, _-_, _≤_, _<_}
-use mathlib.Core.Path.{_≡_, refl, ap, sym, _∙_, subst, subst⁻¹}
-use mathlib.Core.Bool.{Bool, true, false, cond}
+use Prim.Native.Nat.{ℕ, suc, _+_, _-_, _≤_, _<_}
+use mathlib.Core.Path.{_≡_, refl, ap, sym, _∙_, subst}
+use mathlib.Core.Bool.{Bool, cond}
 use mathlib.Core.List.{List, [], _∷_}
 use native.Mathlib.Omega.{arith}
 use native.Mathlib.Nat.{sub-zero}
 use lib.Dec.{eqb}
 use lib.ListN.{length, getD, set, length-set}
 use borrow.Author.Tests.{eq-eqb, ne-eqb}
-use Rattle.arrays.specs.Arrays.{bias, along, Below}
+use Rattle.arrays.specs.Arrays.{along, Below}
 use Rattle.arrays.specs.Columns.{until, laid, columnOf, settled, ColumnFits, Settles, Rooms, Line}
-use Rattle.arrays.proofs.Paths.{along-cons, along-nil}
+use Rattle.arrays.proofs.Paths.{along-cons}
 
 -- ---- the contour from v1 to v2
 until-turn : (right : List ℕ) (a z i k : ℕ) → i < k → until right a z (k - i) ≡ a ∷ cond (eqb a z) [] (until right (getD right a 0) z (k - (i + 1)))

@@ -1,17 +1,14 @@
 -- The sheet's entries, two more at each turn; and a post's record by what the code compared.
-use Prim.Native.Nat.{ℕ, zero, suc, _+_, _*_, _-_, _≤_, _<_}
-use mathlib.Core.Path.{_≡_, refl, ap, sym, _∙_, subst, subst⁻¹}
+use Prim.Native.Nat.{ℕ, suc, _+_, _*_, _-_, _≤_, _<_}
+use mathlib.Core.Path.{_≡_, refl, ap, sym, _∙_}
 use mathlib.Core.Bool.{Bool, true, false, not}
 use mathlib.Core.List.{List, [], _∷_, _++_, append-assoc}
 use native.Mathlib.Omega.{arith}
 use native.Mathlib.Numerals.{add-one}
-use lib.Dec.{eqb}
-use lib.ListN.{length, getD, set, take, drop, length-set, length-append, length-drop}
+use lib.ListN.{length, getD, set, take, drop, length-set, length-append}
 use lib.Seq.{take-suc, drop-cons, set-at, length-take-le}
 use borrow.Author.Tests.{eq-eqb, ne-eqb, not-true, not-false}
-use Rattle.placing.specs.declared.Standing.{Standing}
 use Rattle.placing.specs.declared.Standing.the-variants.{Waiting, OnContour, Covered}
-use Rattle.placing.specs.declared.Record.{Record}
 use Rattle.arrays.specs.Opens.{before}
 use Rattle.arrays.specs.Sheet.{pairs, recordBy}
 

@@ -7,7 +7,7 @@ ghost use Prim.Native.Nat.{ℕ, _+_, _*_, _-_, _/_, _≤_, _<_};
 ghost use lib.ListN.{length, getD, set, take, drop};
 ghost use Rattle.block.specs.Layout.{limit};
 ghost use lib.Seq.{slice};
-ghost use mathlib.Core.Bool.{cond, not, _&&_};
+ghost use mathlib.Core.Bool.{not, _&&_};
 ghost use Rattle.arrays.specs.Opens.{before, opens};
 ghost use Rattle.arrays.specs.Columns.{until, laid, columnOf, settled, ColumnFits, Settles, Rooms, Line};
 ghost use Rattle.arrays.specs.Sheet.{pairs, recordBy};

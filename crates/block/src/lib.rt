@@ -1,13 +1,11 @@
 // The block: its layout from n, the tests of its header, its order and its degrees (steps 1 to 8).
 ghost use mathlib.Core.Path.{_≡_};
-ghost use mathlib.Core.Bool.{Bool, true, false};
+ghost use mathlib.Core.Bool.{false};
 ghost use Prim.Native.Nat.{ℕ, _+_, _*_, _-_, _≤_, _<_};
-ghost use lib.Dec.{eqb};
 ghost use lib.ListN.{length, getD, take};
 ghost use Rattle.words.specs.First.{first};
-ghost use Rattle.words.specs.Lists.{mem};
-ghost use Rattle.words.specs.Numbers.{wordsAt, sumOf};
-ghost use Rattle.block.specs.Layout.{limit, postsAt, orderAt, degreesAt, listsAt, entries, sumAt, size};
+ghost use Rattle.words.specs.Numbers.{sumOf};
+ghost use Rattle.block.specs.Layout.{limit, degreesAt, listsAt, entries, sumAt, size};
 ghost use Rattle.block.specs.Block.{posts, order, degrees, marked, badEntry, badDegree};
 
 // A block's number of posts, which fixes where its parts begin.

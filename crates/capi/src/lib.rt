@@ -1,6 +1,6 @@
 // The services as C functions, for firmware and for tests: include/pgb.h declares them.
 ghost use mathlib.Core.Path.{_≡_};
-ghost use Prim.Native.Nat.{_+_, _*_, _<_};
+ghost use Prim.Native.Nat.{_+_, _*_};
 ghost use Rattle.lamp.specs.Given.{accepted, refused, checkReply};
 ghost use Rattle.unit.specs.Replies.{sheetReply, bufferAfter, postReply};
 ghost use Rattle.lamp.specs.Refusals.{numberOf, placeOf, replyOf};

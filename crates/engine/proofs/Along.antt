@@ -1,14 +1,13 @@
 -- A stretch of the contour as the arrays hold it: the path along it, its sum of offsets, and its posts covered.
-use Prim.Native.Nat.{ℕ, zero, suc, _+_, _-_, _≤_, _<_}
+use Prim.Native.Nat.{ℕ, suc, _+_, _-_, _≤_, _<_}
 use mathlib.Core.Path.{_≡_, refl, ap, sym, _∙_, subst, subst⁻¹}
-use mathlib.Core.Logic.{_⊎_, inl, inr}
+use mathlib.Core.Logic.{inl, inr}
 use mathlib.Core.List.{List, [], _∷_, _++_, append-nil}
 use native.Mathlib.Omega.{arith}
-use native.Mathlib.Decide.{ℕ-discrete}
 use lib.ListN.{length, getD, set, length-set, length-append}
 use lib.Seq.{getD-set-same, getD-set-other}
 use Rattle.words.specs.Lists.{In, lastOf}
-use Rattle.words.proofs.Lists.{Head, Adj, Once, adj-tail, last-append}
+use Rattle.words.proofs.Lists.{Adj, Once, adj-tail, last-append}
 use Rattle.arrays.specs.Arrays.{bias, path, walk, along, Below, covered, hung, Fits}
 
 pub below-all : (n : ℕ) (l : List ℕ) → ((a : ℕ) → In a l → a < n) → Below n l

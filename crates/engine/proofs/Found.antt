@@ -1,30 +1,30 @@
 -- The run of the next post, as the engine finds it: it begins with the first placed entry after one that is not placed, and has as many
 -- entries as are placed.
-use Prim.Native.Nat.{ℕ, zero, suc, _+_, _-_, _≤_, _<_}
+use Prim.Native.Nat.{ℕ, _+_, _-_, _≤_, _<_}
 use mathlib.Core.Path.{_≡_, refl, ap, sym, _∙_, subst, subst⁻¹}
 use mathlib.Core.Logic.{_⊎_, inl, inr}
-use mathlib.Core.Bool.{Bool, true, false, not, cond, _&&_}
+use mathlib.Core.Bool.{Bool, true, not, cond, _&&_}
 use mathlib.Core.List.{List, [], _∷_, _++_}
 use native.Mathlib.Omega.{arith}
 use native.Mathlib.Decide.{decLt}
 use lib.Dec.{ltb}
 use lib.ListN.{length, getD, take, drop, length-append, take-append-drop}
-use lib.Seq.{slice, getD-take}
+use lib.Seq.{getD-take}
 use borrow.Author.Tests.{lt-ltb, le-ltb}
 use Rattle.words.specs.Lists.{In, mem, count, lastOf}
 use Rattle.words.specs.Positions.{post, earlier}
-use Rattle.words.proofs.Lists.{Head, Adj, Once, in-dec, in-head, adj-in-left, adj-in-right, last-in}
-use Rattle.words.proofs.Tests.{is-true, is-false, in-mem, mem-in, in-place, place-in, once-different, count-all, count-append}
-use Rattle.words.proofs.Positions.{in-take, take-in, post-new}
+use Rattle.words.proofs.Lists.{Head, Adj, Once, in-dec, last-in}
+use Rattle.words.proofs.Tests.{is-true, is-false, in-mem, mem-in, in-place, place-in, once-different, count-all}
+use Rattle.words.proofs.Positions.{in-take, take-in}
 use Rattle.rings.specs.Rings.{ring, around}
 use Rattle.rings.proofs.Around.{After, around-in}
-use Rattle.rings.proofs.Places.{after, around-place}
+use Rattle.rings.proofs.Places.{around-place}
 use Rattle.rings.proofs.Says.{Faces, ring-once}
 use Rattle.order.specs.Order.{run, from, oneRun}
-use Rattle.order.proofs.Contour.{Run, Contour}
-use Rattle.order.proofs.Growth.{Grown, grow-at, Names}
+use Rattle.order.proofs.Contour.{Contour}
+use Rattle.order.proofs.Growth.{Grown, grow-at}
 use Rattle.order.proofs.Runs.{whole-is-last}
-use Rattle.order.proofs.Found.{run-after-length, run-at-v1, from-inside, from-count}
+use Rattle.order.proofs.Found.{run-after-length, run-at-v1, from-inside}
 use Rattle.order.proofs.Starts.{startsAt}
 use Rattle.order.proofs.Sound.{Passes, passes-names, passes-faces, passes-outer}
 use Rattle.placing.specs.Stages.{Stage, stage}

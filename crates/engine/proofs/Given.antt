@@ -1,8 +1,8 @@
 -- What is read from arrays with a stage and its columns: the sheet's entries and a post's record are the stage's.
-use Prim.Native.Nat.{ℕ, zero, suc, _+_, _*_, _-_, _≤_, _<_}
+use Prim.Native.Nat.{ℕ, _+_, _*_, _-_, _≤_, _<_}
 use mathlib.Core.Path.{_≡_, refl, ap, sym, _∙_, subst, subst⁻¹}
 use mathlib.Core.Logic.{_⊎_, inl, inr}
-use mathlib.Core.Bool.{Bool, true, false, cond}
+use mathlib.Core.Bool.{cond}
 use mathlib.Core.List.{List, [], _∷_, _++_, flatMap}
 use native.Mathlib.Omega.{arith}
 use lib.Dec.{eqb}
@@ -11,26 +11,23 @@ use lib.Seq.{getD-take}
 use borrow.Author.Tests.{eq-eqb, ne-eqb}
 use Rattle.words.specs.Lists.{In, mem, lastOf}
 use Rattle.words.specs.Positions.{post}
-use Rattle.words.proofs.Lists.{Head, Adj, Once, in-dec, in-head, adj-in-left, adj-tail, last-in}
+use Rattle.words.proofs.Lists.{Head, Adj, Once, in-dec, adj-in-left, adj-tail, last-in}
 use Rattle.words.proofs.Tests.{is-true, is-false, in-mem, mem-in, place-in, once-different}
 use Rattle.words.proofs.Positions.{in-take}
 use Rattle.block.specs.Layout.{limit}
 use Rattle.rings.specs.Held.{held}
 use Rattle.rings.proofs.Around.{After}
 use Rattle.order.proofs.Contour.{Contour}
-use Rattle.order.proofs.Sound.{Passes, passes-names}
-use Rattle.placing.specs.Stages.{Stage, stage}
+use Rattle.order.proofs.Sound.{passes-names}
+use Rattle.placing.specs.Stages.{stage}
 use Rattle.placing.specs.Records.{leftOf, rightOf, standing, recordOf, entriesOf}
-use Rattle.placing.specs.declared.Standing.{Standing}
 use Rattle.placing.specs.declared.Standing.the-variants.{Waiting, OnContour, Covered}
-use Rattle.placing.specs.declared.Record.{Record}
 use Rattle.placing.proofs.Steps.{contours, stage-placed}
 use Rattle.arrays.specs.Opens.{before}
 use Rattle.engine.specs.Found.{Accepted}
-use Rattle.engine.specs.Shows.{Shows, Room, Holds, Drawn}
-use Rattle.arrays.specs.Sheet.{pairs, pickStanding, pickRecord, recordBy}
+use Rattle.engine.specs.Shows.{Shows, Drawn}
+use Rattle.arrays.specs.Sheet.{pairs, pickStanding, recordBy}
 use Rattle.engine.proofs.Found.{placed-by}
-use Rattle.engine.proofs.Kept.{Kept, kept-at}
 use Rattle.engine.proofs.Read.{later}
 
 -- ---- neighbours on a contour

@@ -2,30 +2,26 @@
 use Prim.Native.Nat.{ℕ, _+_, _*_, _-_, _≤_, _<_}
 use mathlib.Core.Path.{_≡_, refl, ap, sym, _∙_, subst, subst⁻¹}
 use mathlib.Core.Logic.{_⊎_, inl, inr, _≢_}
-use mathlib.Core.Bool.{Bool, true, false, cond}
 use mathlib.Core.List.{List, [], _∷_, _++_, flatMap}
 use native.Mathlib.Omega.{arith}
 use native.Mathlib.Decide.{ℕ-discrete, decLt}
-use lib.Dec.{eqb}
 use lib.ListN.{length, getD, take, length-append, List·getD-append}
 use lib.Seq.{getD-at}
-use Rattle.words.specs.Lists.{In, mem}
+use Rattle.words.specs.Lists.{In}
 use Rattle.words.specs.Positions.{post}
-use Rattle.words.proofs.Lists.{Head, Once, in-head, head-same, in-dec, in-left, in-right, in-cases, swap-in}
+use Rattle.words.proofs.Lists.{Head, in-head, head-same, in-dec, in-left, in-right, in-cases, swap-in}
 use Rattle.words.proofs.Tests.{eqb-same, eqb-other, place-in, once-different}
-use Rattle.rings.specs.Rings.{ring}
-use Rattle.order.specs.Order.{run}
 use Rattle.order.proofs.Sound.{Passes, passes-names}
 use Rattle.placing.specs.Stages.{Stage, third, placeOver, place, stage}
 use Rattle.placing.proofs.Steps.{Step, step-at, place-placed, at-each-stage}
-use Rattle.placing.proofs.Placed.{place-group, place-cover, place-x-old, place-y-old}
-use Rattle.drawing.proofs.Build.{Build, post as build-post, Post, on-contour}
+use Rattle.placing.proofs.Placed.{place-group, place-cover, place-x-old}
+use Rattle.drawing.proofs.Build.{Build, post as build-post, on-contour}
 use Rattle.plane.proofs.Lists.{in-mem, not-mem, in-groups, groups-in, sides}
 use Rattle.plane.proofs.Drawn.{Drawn}
 use Rattle.plane.proofs.Over.{before, inside, after, ends, by-0, by-1, by-2}
 use Rattle.plane.proofs.Next.{OneStep, step, stepped}
 use Rattle.plane.proofs.Start.{three, start}
-use Rattle.plane.proofs.Sheet.{in-some, in-one, group-placed, contour-placed, within, Recast, recast}
+use Rattle.plane.proofs.Sheet.{in-some, in-one, group-placed, within, Recast, recast}
 
 pub record Kept (t : Stage) : Type 0 where
   pub C : List ℕ

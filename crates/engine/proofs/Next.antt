@@ -1,9 +1,9 @@
 -- The step from stage k of an accepted block, from what the code reads and what its parts ensure.
-use Prim.Native.Nat.{ℕ, zero, suc, _+_, _-_, _≤_, _<_}
+use Prim.Native.Nat.{ℕ, suc, _+_, _-_, _≤_, _<_}
 use mathlib.Core.Path.{_≡_, refl, ap, sym, _∙_, subst, subst⁻¹}
-use mathlib.Core.Logic.{_⊎_, inl, inr}
+use mathlib.Core.Logic.{inl}
 use mathlib.Core.Bool.{Bool}
-use mathlib.Core.List.{List, [], _∷_, _++_}
+use mathlib.Core.List.{List, [], _∷_}
 use native.Mathlib.Omega.{arith}
 use lib.ListN.{length, getD, take}
 use lib.Seq.{slice, length-slice, length-take-le}
@@ -11,20 +11,19 @@ use Rattle.words.specs.Lists.{In, mem, count, lastOf}
 use Rattle.words.specs.Positions.{post, earlier}
 use Rattle.words.proofs.Tests.{place-in}
 use Rattle.words.proofs.Positions.{in-take}
-use Rattle.block.specs.Layout.{limit}
 use Rattle.rings.specs.Rings.{ring}
-use Rattle.rings.specs.Held.{held, Cuts}
-use Rattle.rings.proofs.Held.{held-length, held-part}
+use Rattle.rings.specs.Held.{held}
+use Rattle.rings.proofs.Held.{held-part}
 use Rattle.rings.proofs.Turns.{part-at}
-use Rattle.rings.proofs.Says.{Faces, entry-below}
-use Rattle.order.proofs.Sound.{Passes, passes-names, passes-faces}
-use Rattle.placing.specs.Stages.{Stage, stage, place}
+use Rattle.rings.proofs.Says.{entry-below}
+use Rattle.order.proofs.Sound.{passes-names, passes-faces}
+use Rattle.placing.specs.Stages.{Stage, stage}
 use Rattle.placing.proofs.Steps.{Step, step-at, stage-next, stage-placed}
 use Rattle.arrays.specs.Arrays.{Ready, Over}
 use Rattle.arrays.specs.Opens.{opens}
 use Rattle.arrays.specs.Opens.{before as earlier-than}
 use Rattle.engine.specs.Found.{Accepted}
-use Rattle.engine.specs.Shows.{Shows, Room, Holds}
+use Rattle.engine.specs.Shows.{Shows, Holds}
 use Rattle.engine.proofs.Kept.{Kept, kept-at}
 use Rattle.engine.proofs.Found.{opens-same, placed-by, run-found}
 use Rattle.engine.proofs.Shown.{ready, shown, roomy}

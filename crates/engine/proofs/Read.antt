@@ -1,12 +1,10 @@
 -- What is read from arrays that show a stage: the columns of its posts.
-use Prim.Native.Nat.{ℕ, zero, suc, _+_, _*_, _-_, _≤_, _<_}
+use Prim.Native.Nat.{ℕ, zero, suc, _+_, _-_, _≤_, _<_}
 use mathlib.Core.Path.{_≡_, refl, ap, sym, _∙_, subst, subst⁻¹}
-use mathlib.Core.Logic.{_⊎_, inl, inr}
-use mathlib.Core.Bool.{Bool, true, false, cond}
+use mathlib.Core.Logic.{inl, inr}
 use mathlib.Core.List.{List, [], _∷_}
 use native.Mathlib.Omega.{arith}
 use native.Mathlib.Decide.{ℕ-discrete}
-use lib.Dec.{eqb}
 use lib.ListN.{length, getD, set, take, length-set}
 use lib.Seq.{getD-set-same, getD-set-other, getD-take, length-take-le}
 use borrow.Author.Tests.{eq-eqb, ne-eqb}
@@ -18,13 +16,13 @@ use Rattle.words.proofs.Positions.{in-take, take-in}
 use Rattle.rings.specs.Held.{held}
 use Rattle.rings.proofs.Around.{After}
 use Rattle.order.proofs.Contour.{Contour}
-use Rattle.order.proofs.Sound.{Passes, passes-names}
+use Rattle.order.proofs.Sound.{passes-names}
 use Rattle.placing.specs.Stages.{Stage, stage}
 use Rattle.placing.proofs.Steps.{contours, stage-placed}
 use Rattle.plane.proofs.Sheet.{within}
-use Rattle.arrays.specs.Arrays.{bias, along, Below}
+use Rattle.arrays.specs.Arrays.{along, Below}
 use Rattle.engine.specs.Found.{Accepted}
-use Rattle.engine.specs.Shows.{Shows, Room, Holds, Drawn}
+use Rattle.engine.specs.Shows.{Shows, Holds, Drawn}
 use Rattle.arrays.specs.Columns.{until, laid, columnOf, settled, ColumnFits, Settles, Rooms, Line, Readable, columnsOf}
 use Rattle.engine.proofs.Kept.{Kept, kept-at}
 use Rattle.engine.proofs.Along.{Apart, below-all, along-list}

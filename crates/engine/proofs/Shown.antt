@@ -1,20 +1,20 @@
 -- Arrays that show a stage are ready for the next post, and what the code makes of them shows the next stage.
-use Prim.Native.Nat.{ℕ, zero, suc, _+_, _*_, _-_, _/_, _≤_, _<_}
+use Prim.Native.Nat.{ℕ, _+_, _*_, _-_, _/_, _≤_, _<_}
 use mathlib.Core.Path.{_≡_, refl, ap, sym, _∙_, subst, subst⁻¹}
-use mathlib.Core.Logic.{_⊎_, inl, inr}
+use mathlib.Core.Logic.{inl, inr}
 use mathlib.Core.List.{List, [], _∷_, _++_, append-assoc}
 use native.Mathlib.Omega.{arith}
 use lib.ListN.{length, getD, set, length-set}
 use lib.Seq.{getD-set-same, getD-set-other}
-use Rattle.words.specs.Lists.{In, lastOf}
+use Rattle.words.specs.Lists.{In}
 use Rattle.words.proofs.Lists.{Head, Adj, Once, once-split, once-drop, in-left, in-right, adj-left, adj-right, last-append}
 use Rattle.placing.specs.Stages.{Stage, place}
-use Rattle.placing.proofs.Steps.{Step, place-placed}
-use Rattle.placing.proofs.Placed.{p-placed, q-placed, p-old, q-old}
-use Rattle.arrays.specs.Arrays.{bias, path, walk, along, Below, covered, hung, Fits, runEnd, farAt, innerAt, newOff, newHeight, Ready, Over}
+use Rattle.placing.proofs.Steps.{Step}
+use Rattle.placing.proofs.Placed.{p-old, q-old}
+use Rattle.arrays.specs.Arrays.{bias, path, along, Below, covered, hung, runEnd, farAt, innerAt, newOff, newHeight, Ready, Over}
 use Rattle.engine.specs.Shows.{Shows, Room}
 use Rattle.engine.proofs.Kept.{Kept, Moves, moves}
-use Rattle.engine.proofs.Stepped.{Changed, left-not, right-not, p-in, shows-next}
+use Rattle.engine.proofs.Stepped.{Changed, right-not, shows-next}
 use Rattle.engine.proofs.Along.{below-all, path-but-last, path-but-first, path-inner, walk-last, along-list, fits-list, hung-off, hung-length, hung-at, covered-off, covered-length, covered-at}
 
 -- the halves: xp and yp are w_p's, xq and yq w_q's before it moves by 2

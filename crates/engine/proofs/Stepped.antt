@@ -1,17 +1,16 @@
 -- The step of the engine: arrays that show a stage, changed at v, at the ends of its run and at the posts it covers, show the next stage.
-use Prim.Native.Nat.{ℕ, _+_, _*_, _-_, _≤_, _<_}
+use Prim.Native.Nat.{ℕ, _+_, _-_, _<_}
 use mathlib.Core.Path.{_≡_, refl, ap, sym, _∙_, subst, subst⁻¹}
-use mathlib.Core.Logic.{_⊎_, inl, inr, _≢_}
+use mathlib.Core.Logic.{_⊎_, inl, inr}
 use mathlib.Core.List.{List, [], _∷_, _++_, append-assoc}
 use native.Mathlib.Omega.{arith}
 use native.Mathlib.Decide.{ℕ-discrete}
 use lib.ListN.{length, getD, List·getD-append}
 use Rattle.words.specs.Lists.{In, lastOf}
 use Rattle.words.specs.Positions.{post}
-use Rattle.words.proofs.Lists.{Head, Adj, Once, once-split, once-drop, in-dec, in-left, in-right, in-cases, in-head, adj-in-left, adj-in-right, adj-left, adj-right, adj-cases, adj-init, adj-tail, last-append, last-in}
+use Rattle.words.proofs.Lists.{Adj, Once, once-split, once-drop, in-dec, in-left, in-right, in-cases, adj-in-left, adj-in-right, adj-left, adj-right, adj-cases, adj-init, adj-tail, last-append, last-in}
 use Rattle.placing.specs.Stages.{Stage, place}
 use Rattle.placing.proofs.Steps.{Step, place-placed}
-use Rattle.placing.proofs.Placed.{p-placed, q-placed, p-old, q-old}
 use Rattle.plane.proofs.Lists.{sides}
 use Rattle.arrays.specs.Arrays.{bias}
 use Rattle.engine.specs.Shows.{Shows}

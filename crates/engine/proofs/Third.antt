@@ -1,7 +1,7 @@
 -- Stage 3 in the arrays.
-use Prim.Native.Nat.{ℕ, _+_, _≤_, _<_}
-use mathlib.Core.Path.{_≡_, refl, ap, sym, _∙_, subst, subst⁻¹}
-use mathlib.Core.Logic.{_⊎_, inl, inr, _≢_}
+use Prim.Native.Nat.{ℕ, _<_}
+use mathlib.Core.Path.{_≡_, refl, sym, _∙_, subst, subst⁻¹}
+use mathlib.Core.Logic.{inl, inr, _≢_}
 use mathlib.Core.List.{List, [], _∷_}
 use native.Mathlib.Omega.{arith}
 use lib.ListN.{length, getD, set, length-set}
@@ -10,10 +10,9 @@ use Rattle.words.specs.Lists.{In}
 use Rattle.words.proofs.Lists.{Adj}
 use Rattle.words.proofs.Tests.{eqb-same, eqb-other, place-in}
 use Rattle.rings.specs.Held.{held}
-use Rattle.order.proofs.Sound.{Passes, passes-names}
+use Rattle.order.proofs.Sound.{passes-names}
 use Rattle.placing.specs.Stages.{Stage, third}
 use Rattle.placing.proofs.Steps.{stage-third}
-use Rattle.arrays.specs.Arrays.{bias}
 use Rattle.engine.specs.Found.{Accepted}
 use Rattle.engine.specs.Shows.{Shows, Room, Corners, Holds}
 use Rattle.engine.proofs.Kept.{apart}

@@ -2,12 +2,8 @@
 use placing::Record;
 ghost use mathlib.Core.Path.{_≡_};
 ghost use mathlib.Core.List.{_++_};
-ghost use Prim.Native.Nat.{ℕ, _+_, _*_, _-_, _/_, _≤_, _<_};
-ghost use lib.ListN.{length, getD, set, take, drop};
-ghost use Rattle.block.specs.Layout.{limit};
-ghost use lib.Seq.{slice};
-ghost use mathlib.Core.Bool.{cond, not, _&&_};
-ghost use Rattle.words.specs.Lists.{lastOf, count};
+ghost use Prim.Native.Nat.{_+_, _*_, _-_, _≤_, _<_};
+ghost use lib.ListN.{length, take, drop};
 ghost use Rattle.engine.specs.Found.{Accepted};
 ghost use Rattle.rings.specs.Held.{held};
 ghost use Rattle.placing.specs.Stages.{third, stage};

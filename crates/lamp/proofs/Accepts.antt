@@ -1,7 +1,7 @@
 -- No row of check's table applies exactly when the lists and the order pass the tests.
 use Prim.Native.Nat.{ℕ, zero, suc, _+_, _*_, _-_, _≤_, _<_}
-use mathlib.Core.Path.{_≡_, refl, sym, ap, _∙_, subst, subst⁻¹}
-use mathlib.Core.Bool.{Bool, true, false, not, _&&_, _||_, true≢false}
+use mathlib.Core.Path.{_≡_, refl, sym, ap, _∙_, subst}
+use mathlib.Core.Bool.{Bool, true, false, not, _&&_, true≢false}
 use mathlib.Core.List.{List, [], _∷_, _++_, map, flatMap}
 use native.Mathlib.Omega.{arith}
 use native.Mathlib.Decide.{ℕ-discrete}
@@ -9,7 +9,7 @@ use lib.Dec.{ltb, eqb}
 use lib.ListN.{length}
 use borrow.Author.Tests.{lt-ltb, ltb-true, eq-eqb, eqb-true, not-false}
 use Rattle.words.specs.First.{numbers, some}
-use Rattle.words.specs.Numbers.{wordsAt, sumOf}
+use Rattle.words.specs.Numbers.{sumOf}
 use Rattle.words.specs.Positions.{post, earlier, later}
 use Rattle.words.proofs.First.{some-none, some-false}
 use Rattle.words.proofs.Numbers.{words-length}
@@ -17,14 +17,12 @@ use Rattle.words.proofs.Tests.{neither}
 use Rattle.block.specs.Layout.{entries, listsAt}
 use Rattle.block.specs.Block.{posts, order, degrees, listsFrom, lists, badEntry, badDegree, Framed}
 use Rattle.rings.specs.Rings.{ringRule, triangleRule, outerRule}
-use Rattle.rings.specs.Plane.{Plane}
 use Rattle.order.specs.Order.{twoPlaced, oneRun, oneLater}
-use Rattle.order.specs.Canonical.{Canonical}
 use Rattle.order.proofs.Sound.{Passes}
 use Rattle.lamp.specs.Lamp.{Row, blockRows, positionRows, checkRows, ringFault, triangleFault}
 use Rattle.lamp.specs.Given.{NoneApplies}
 use Rattle.lamp.specs.Held.{headRows, listRows, ringRows}
-use Rattle.lamp.proofs.Heads.{framed, framed-none}
+use Rattle.lamp.proofs.Heads.{framed-none}
 use Rattle.lamp.proofs.Sounds.{order-length}
 
 -- ---- the lists are as long as the degrees say

@@ -1,5 +1,5 @@
 -- Steps 1 to 6, by what the code compared; and what their passing means.
-use Prim.Native.Nat.{ℕ, _+_, _*_, _-_, _≤_, _<_}
+use Prim.Native.Nat.{ℕ, _-_, _≤_, _<_}
 use mathlib.Core.Path.{_≡_, refl, sym, ap, _∙_}
 use mathlib.Core.Bool.{Bool, true, false, not, _&&_, _||_, true≢false}
 use mathlib.Core.List.{List, [], _∷_}
@@ -8,12 +8,11 @@ use lib.Dec.{ltb, eqb}
 use lib.ListN.{length, getD, take}
 use lib.Seq.{getD-take}
 use borrow.Author.Tests.{lt-ltb, le-ltb, eq-eqb, ne-eqb, ltb-false, eqb-true, not-false}
-use Rattle.words.specs.Numbers.{wordAt}
 use Rattle.words.proofs.Tests.{neither}
 use Rattle.block.specs.Layout.{limit, size}
 use Rattle.block.specs.Block.{mark, version, posts, statedSum, earlierSum, marked, Framed}
-use Rattle.lamp.specs.Lamp.{Row, blockRows}
-use Rattle.lamp.specs.Given.{Reply, accepted, refused, given, NoneApplies}
+use Rattle.lamp.specs.Lamp.{blockRows}
+use Rattle.lamp.specs.Given.{accepted, refused, given, NoneApplies}
 use Rattle.lamp.specs.Held.{headRows, Headed}
 use Rattle.lamp.proofs.Given.{given-end, given-skip, given-stop, given-none, given-says}
 

@@ -1,10 +1,9 @@
 -- Steps 7 and 8, by what the code found.
-use Prim.Native.Nat.{ℕ, _+_, _*_, _-_, _≤_, _<_}
+use Prim.Native.Nat.{ℕ, _+_, _-_, _≤_, _<_}
 use mathlib.Core.Path.{_≡_, refl, sym, ap, _∙_}
-use mathlib.Core.Bool.{Bool, true, false, not, _||_}
-use mathlib.Core.List.{List, []}
+use mathlib.Core.Bool.{true, false}
+use mathlib.Core.List.{List}
 use native.Mathlib.Omega.{arith}
-use lib.Dec.{ltb, eqb}
 use borrow.Author.Tests.{lt-ltb, le-ltb, eq-eqb, ne-eqb}
 use Rattle.words.specs.Numbers.{sumOf}
 use Rattle.words.specs.First.{first, some}
@@ -12,7 +11,7 @@ use Rattle.words.proofs.First.{first-is}
 use Rattle.block.specs.Layout.{entries}
 use Rattle.block.specs.Block.{posts, order, degrees, badEntry, badDegree}
 use Rattle.lamp.specs.Lamp.{blockRows}
-use Rattle.lamp.specs.Given.{Reply, accepted, refused, given}
+use Rattle.lamp.specs.Given.{accepted, refused, given}
 use Rattle.lamp.specs.Held.{listRows}
 use Rattle.lamp.proofs.Given.{given-end, given-skip, given-stop}
 

@@ -1,16 +1,15 @@
 -- Steps 9 to 14, by what the code found; the rows of positions one after the other.
-use Prim.Native.Nat.{ℕ, zero, suc, _+_, _*_, _-_, _≤_, _<_}
+use Prim.Native.Nat.{ℕ, suc, _+_, _-_, _≤_, _<_}
 use mathlib.Core.Path.{_≡_, refl, sym, ap, _∙_, subst⁻¹}
-use mathlib.Core.Bool.{Bool, true, false, not, cond, _&&_, _||_}
-use mathlib.Core.List.{List, [], _∷_, _++_, flatMap}
+use mathlib.Core.Bool.{Bool, true, false, not, cond, _&&_}
+use mathlib.Core.List.{List, [], _++_, flatMap}
 use native.Mathlib.Omega.{arith}
 use native.Mathlib.Numerals.{add-one}
-use lib.Dec.{ltb, eqb}
-use lib.ListN.{length, getD, drop}
+use lib.Dec.{ltb}
+use lib.ListN.{length, getD}
 use borrow.Author.Tests.{lt-ltb, le-ltb}
 use Rattle.words.specs.First.{numbers, first, some}
 use Rattle.words.specs.Positions.{post, earlier, later}
-use Rattle.block.specs.Layout.{limit}
 use Rattle.block.specs.Block.{posts, order, lists}
 use Rattle.rings.specs.Rings.{ringRule, triangleRule, outerRule}
 use Rattle.rings.specs.Held.{held}
@@ -18,10 +17,10 @@ use Rattle.order.specs.Order.{twoPlaced, oneRun, oneLater}
 use Rattle.order.specs.Held.{fitOf}
 use Rattle.order.specs.declared.Fit.{Fit}
 use Rattle.order.specs.declared.Fit.the-variants.{Good, Few, Broken, Last}
-use Rattle.lamp.specs.Lamp.{Row, blockRows, positionRows, ringFault, triangleFault}
+use Rattle.lamp.specs.Lamp.{blockRows, positionRows, ringFault, triangleFault}
 use Rattle.lamp.specs.Given.{Reply, accepted, refused, given}
 use Rattle.order.proofs.Sound.{position-says}
-use Rattle.lamp.specs.Held.{ringRows, rowsFrom, Headed, Laid, Ringed}
+use Rattle.lamp.specs.Held.{ringRows, rowsFrom, Laid, Ringed}
 use Rattle.lamp.proofs.Given.{given-end, given-skip, given-stop, given-past, given-says, given-refused, refused-any}
 
 -- the first of n names, or n: whether there is one

@@ -1,22 +1,21 @@
 -- What passing some steps means for the next; the table in the parts in which the code tries it.
-use Prim.Native.Nat.{ℕ, _+_, _*_, _-_, _≤_, _<_}
+use Prim.Native.Nat.{ℕ, _+_, _-_, _≤_, _<_}
 use mathlib.Core.Path.{_≡_, refl, sym, ap, _∙_, subst⁻¹}
-use mathlib.Core.Bool.{Bool, true, false, not}
-use mathlib.Core.List.{List, [], _∷_, _++_, flatMap}
+use mathlib.Core.Bool.{false}
+use mathlib.Core.List.{List, _++_}
 use native.Mathlib.Omega.{arith}
 use lib.ListN.{length, take}
 use lib.Seq.{length-take-le}
 use borrow.Author.Tests.{not-false}
-use Rattle.words.specs.First.{numbers}
 use Rattle.words.proofs.First.{some-none}
 use Rattle.words.proofs.Numbers.{words-length}
 use Rattle.block.specs.Layout.{limit, entries}
 use Rattle.block.specs.Block.{posts, order, lists, badEntry}
 use Rattle.rings.specs.Rings.{ringRule}
 use Rattle.order.specs.Held.{Ranked}
-use Rattle.lamp.specs.Lamp.{Row, blockRows, positionRows, checkRows, ringFault}
+use Rattle.lamp.specs.Lamp.{Row, blockRows, checkRows, ringFault}
 use Rattle.lamp.specs.Given.{Reply, accepted, refused, given, checkReply, NoneApplies}
-use Rattle.lamp.specs.Held.{headRows, listRows, ringRows, rowsFrom, Headed, Wide, Holds, Laid, Entered, Ringed, Ready}
+use Rattle.lamp.specs.Held.{headRows, listRows, ringRows, rowsFrom, Headed, Holds, Laid, Entered, Ringed, Ready}
 use Rattle.lamp.specs.Refusals.{replyOf}
 use Rattle.lamp.specs.declared.Answer.{Answer}
 use Rattle.lamp.specs.declared.Answer.the-variants.{Accepted}

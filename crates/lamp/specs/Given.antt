@@ -1,7 +1,7 @@
 -- What the table gives: the first row that applies, or acceptance.
 use Prim.Native.Nat.{ℕ}
 use mathlib.Core.Path.{_≡_}
-use mathlib.Core.Bool.{Bool, true, false}
+use mathlib.Core.Bool.{true, false}
 use mathlib.Core.List.{List, [], _∷_, _++_}
 use Rattle.block.specs.Block.{posts}
 use Rattle.lamp.specs.Lamp.{Row, checkRows}

@@ -1,5 +1,5 @@
 -- How the services hold a block whose header is sound: its order, its lists, and the positions by name, each at the front of a longer array.
-use Prim.Native.Nat.{ℕ, _+_, _*_, _-_, _≤_, _<_}
+use Prim.Native.Nat.{ℕ, _+_, _-_, _≤_, _<_}
 use mathlib.Core.Path.{_≡_}
 use mathlib.Core.Bool.{true, false}
 use mathlib.Core.List.{List, flatMap}

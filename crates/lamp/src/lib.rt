@@ -3,7 +3,7 @@ ghost use mathlib.Core.Path.{_≡_};
 ghost use mathlib.Core.List.{_++_};
 ghost use Prim.Native.Nat.{ℕ, _+_, _≤_};
 ghost use lib.ListN.{length};
-ghost use Rattle.block.specs.Layout.{limit, entries};
+ghost use Rattle.block.specs.Layout.{limit};
 ghost use Rattle.block.specs.Block.{posts, order};
 ghost use Rattle.order.specs.Held.{Ranked};
 ghost use Rattle.lamp.specs.Lamp.{positionRows};

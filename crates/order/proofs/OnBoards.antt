@@ -1,7 +1,7 @@
 -- Runs on board D, by computing.
 use mathlib.Core.Path.{_≡_, refl}
-use mathlib.Core.Bool.{Bool, true, false}
-use mathlib.Core.List.{List, [], _∷_}
+use mathlib.Core.Bool.{true, false}
+use mathlib.Core.List.{[], _∷_}
 use Rattle.words.specs.First.{first, some}
 use Rattle.words.specs.Lists.{mem, allOf, anyOf, count}
 use Rattle.rings.specs.Boards.{listsD}

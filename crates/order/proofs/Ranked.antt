@@ -1,19 +1,19 @@
 -- Positions by name: earlier and later as comparisons of positions; and what one turn more of a loop over a ring counts.
-use Prim.Native.Nat.{ℕ, zero, suc, _+_, _-_, _≤_, _<_}
-use mathlib.Core.Path.{_≡_, refl, sym, ap, _∙_}
-use mathlib.Core.Bool.{Bool, true, false, not, cond, _&&_, _||_}
-use mathlib.Core.List.{List, [], _∷_}
+use Prim.Native.Nat.{ℕ, suc, _+_, _-_, _≤_, _<_}
+use mathlib.Core.Path.{_≡_, refl, sym, _∙_}
+use mathlib.Core.Bool.{Bool, true, false, not, cond, _&&_}
+use mathlib.Core.List.{List}
 use native.Mathlib.Omega.{arith}
 use native.Mathlib.Decide.{ℕ-discrete, decLt}
 use lib.Dec.{ltb}
-use lib.ListN.{length, getD, take, drop, set}
+use lib.ListN.{length, getD, drop, set}
 use lib.Seq.{slice, length-slice, getD-set-same, getD-set-other}
 use borrow.Author.Tests.{lt-ltb, le-ltb}
 use Rattle.words.specs.Lists.{In, mem}
 use Rattle.words.specs.Positions.{post, earlier, later, Earlier, Later}
-use Rattle.words.proofs.Lists.{Once, all-there}
+use Rattle.words.proofs.Lists.{all-there}
 use Rattle.words.proofs.Tests.{is-true, is-false, mem-in, in-mem, in-place, different-once}
-use Rattle.words.proofs.Positions.{earlier-in, in-earlier, later-in, in-later, post-suc, take-in}
+use Rattle.words.proofs.Positions.{earlier-in, in-earlier, later-in, in-later, post-suc}
 use Rattle.block.specs.Block.{badEntry}
 use Rattle.rings.specs.Rings.{around}
 use Rattle.rings.proofs.Turns.{pair-here, pair-next, around-here, around-after, around-first}

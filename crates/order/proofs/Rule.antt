@@ -1,7 +1,7 @@
 -- The rule at a position, by what the code counted in the ring of the post there.
 use Prim.Native.Nat.{ℕ, _+_, _-_, _≤_, _<_}
-use mathlib.Core.Path.{_≡_, refl, sym, ap, _∙_}
-use mathlib.Core.Bool.{Bool, true, false, cond}
+use mathlib.Core.Path.{_≡_, refl, sym}
+use mathlib.Core.Bool.{Bool, true, false}
 use mathlib.Core.List.{List}
 use native.Mathlib.Omega.{arith}
 use lib.Dec.{leb, ltb}
@@ -9,16 +9,14 @@ use lib.ListN.{length, getD}
 use lib.Seq.{slice, length-slice}
 use borrow.Author.Tests.{lt-ltb, le-ltb, le-leb, lt-leb}
 use Rattle.words.specs.Lists.{In, mem, anyOf, count}
-use Rattle.words.specs.Positions.{post, earlier, later}
-use Rattle.words.proofs.Tests.{is-true, is-false, holds, count-length, place-in}
+use Rattle.words.proofs.Tests.{is-true, is-false, count-length, place-in}
 use Rattle.rings.specs.Rings.{ring, around, ringRule}
-use Rattle.rings.specs.Held.{held, Cuts}
+use Rattle.rings.specs.Held.{held}
 use Rattle.rings.proofs.Held.{held-length, held-part}
 use Rattle.rings.proofs.Turns.{part-at}
 use Rattle.rings.proofs.Says.{ring-says}
 use Rattle.order.specs.Order.{twoPlaced, oneRun, oneLater}
 use Rattle.order.specs.Held.{Names, starts, fitOf}
-use Rattle.order.specs.declared.Fit.{Fit}
 use Rattle.order.specs.declared.Fit.the-variants.{Good, Few, Broken, Last}
 use Rattle.order.proofs.Starts.{one-run-starts, starts-one-run}
 

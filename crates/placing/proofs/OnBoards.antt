@@ -1,6 +1,6 @@
 -- Small boards, by computing: the new post stands where the diagonals from its run's ends meet, and covered posts move with their groups.
 use mathlib.Core.Path.{_≡_, refl}
-use mathlib.Core.List.{List, [], _∷_, flatMap}
+use mathlib.Core.List.{[], _∷_, flatMap}
 use Rattle.words.specs.First.{first}
 use Rattle.words.specs.Lists.{mem, allOf, anyOf}
 use Rattle.rings.specs.Boards.{orderD, listsD}

@@ -1,6 +1,6 @@
 -- A post's record at a stage, and the entries of the sheet buffer.
 use Prim.Native.Nat.{ℕ}
-use mathlib.Core.Bool.{Bool, true, false, cond}
+use mathlib.Core.Bool.{cond}
 use mathlib.Core.List.{List, [], _∷_, flatMap}
 use lib.Dec.{eqb}
 use Rattle.words.specs.Lists.{mem}

@@ -1,6 +1,6 @@
 -- Board D keeps the rules of rings, triangles and the outer triangle, by computing.
 use mathlib.Core.Path.{_≡_, refl}
-use mathlib.Core.Bool.{Bool, true, false, not}
+use mathlib.Core.Bool.{true, false, not}
 use Rattle.words.specs.First.{first, some}
 use Rattle.words.specs.Lists.{mem, allOf, count}
 use Rattle.rings.specs.Boards.{listsD}

@@ -1,14 +1,13 @@
 -- Reading the neighbour lists: what stands in the arrays is the block's lists.
 use Prim.Native.Nat.{ℕ, zero, suc, _+_, _*_, _-_, _≤_, _<_}
 use mathlib.Core.Path.{_≡_, refl, sym, ap, _∙_}
-use mathlib.Core.List.{List, [], _∷_, _++_}
+use mathlib.Core.List.{List, [], _∷_}
 use native.Mathlib.Omega.{arith}
-use native.Mathlib.Numerals.{add-one}
-use lib.ListN.{length, getD, take, drop, length-take}
+use lib.ListN.{length, getD, take, drop}
 use lib.Seq.{slice, getD-take, length-take-le}
 use Rattle.words.specs.Numbers.{wordAt, wordsAt, sumOf}
 use Rattle.words.proofs.Numbers.{words-length, sum-part, sum-step}
-use Rattle.block.specs.Layout.{entries, listsAt, size}
+use Rattle.block.specs.Layout.{entries, listsAt}
 use Rattle.block.specs.Block.{posts, degrees, listsFrom, lists}
 use Rattle.rings.specs.Held.{held, Cuts}
 

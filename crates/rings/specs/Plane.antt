@@ -1,8 +1,8 @@
 -- Plane and triangulated, said by quantifiers: what the lists must be, whatever the unit tests.
-use Prim.Native.Nat.{ℕ, _+_, _*_, _-_, _≤_, _<_}
+use Prim.Native.Nat.{ℕ, _+_, _*_, _-_, _<_}
 use mathlib.Core.Path.{_≡_}
 use mathlib.Core.Logic.{_≢_}
-use mathlib.Core.List.{List, [], _∷_, _++_, map}
+use mathlib.Core.List.{List, _∷_, _++_, map}
 use lib.ListN.{length}
 use Rattle.words.specs.Numbers.{sumOf}
 use Rattle.words.specs.Lists.{In, Different}

@@ -1,8 +1,8 @@
 // Rings: a post's neighbours counter-clockwise, read around; ring rule, triangle rule and outer triangle (steps 9 to 11). All entries stand one
 // after the other in `ents`; the list of u goes from at[u] to at[u + 1].
 ghost use mathlib.Core.Path.{_≡_};
-ghost use mathlib.Core.Bool.{Bool, true, false, not, cond, _&&_};
-ghost use Prim.Native.Nat.{ℕ, _+_, _*_, _-_, _≤_, _<_};
+ghost use mathlib.Core.Bool.{true, false, not, cond, _&&_};
+ghost use Prim.Native.Nat.{_+_, _-_, _≤_, _<_};
 ghost use lib.Dec.{eqb};
 ghost use lib.ListN.{length, getD, take};
 ghost use lib.Seq.{slice};

@@ -1,14 +1,14 @@
 -- The replies of sheet and post, by what check answered and the code compared; and the buffer after a sheet call.
 use Prim.Native.Nat.{ℕ, _+_, _*_, _-_, _≤_, _<_}
 use mathlib.Core.Path.{_≡_, refl, sym, ap, _∙_, subst, subst⁻¹}
-use mathlib.Core.Bool.{Bool, true, false, not, _||_}
+use mathlib.Core.Bool.{false, _||_}
 use mathlib.Core.List.{List, [], _∷_, _++_}
 use native.Mathlib.Omega.{arith}
-use lib.Dec.{ltb, leb}
+use lib.Dec.{ltb}
 use lib.ListN.{length, take, drop}
 use borrow.Author.Tests.{lt-ltb, le-ltb, le-leb, lt-leb}
 use Rattle.block.specs.Layout.{limit, entries}
-use Rattle.block.specs.Block.{posts, order, lists}
+use Rattle.block.specs.Block.{posts, lists}
 use Rattle.rings.specs.Held.{held}
 use Rattle.order.specs.Held.{Ranked}
 use Rattle.order.proofs.Sound.{Passes}
@@ -19,7 +19,7 @@ use Rattle.engine.specs.Found.{Accepted}
 use Rattle.lamp.specs.Lamp.{Row, checkRows, stageRow, roomRow, nameRow, sheetRows, postRows}
 use Rattle.lamp.specs.Given.{Reply, accepted, refused, given, checkReply, NoneApplies}
 use Rattle.unit.specs.Replies.{stageAt, sheetReply, bufferFor, bufferAfter, postReply}
-use Rattle.lamp.specs.Held.{Headed, Holds, Laid, Ready}
+use Rattle.lamp.specs.Held.{Laid, Ready}
 use Rattle.lamp.proofs.Given.{given-end, given-skip, given-stop, given-past, given-says, given-refused, refused-any}
 use Rattle.lamp.proofs.Sounds.{laid}
 use Rattle.lamp.proofs.Accepts.{none-passes}

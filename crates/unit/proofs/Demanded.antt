@@ -1,19 +1,17 @@
 -- The three demands, proved of the unit that the paper describes; and that no other replies meet them.
-use Prim.Native.Nat.{ℕ, _+_, _*_, _-_, _≤_, _<_}
+use Prim.Native.Nat.{ℕ, _+_, _*_, _-_}
 use mathlib.Core.Path.{_≡_, refl, sym, ap, _∙_, subst}
-use mathlib.Core.Logic.{_↔_}
 use mathlib.Core.List.{List, _++_, flatMap}
-use native.Mathlib.Omega.{arith}
-use lib.ListN.{length, take, drop}
+use lib.ListN.{length, drop}
 use Rattle.words.specs.First.{numbers}
 use Rattle.words.specs.Positions.{post}
 use Rattle.block.specs.Block.{posts, order, lists, Framed}
 use Rattle.rings.specs.Plane.{Plane}
 use Rattle.order.specs.Canonical.{Canonical}
-use Rattle.order.proofs.Sound.{Passes, passes-sound, sound-passes}
+use Rattle.order.proofs.Sound.{passes-sound, sound-passes}
 use Rattle.placing.specs.Records.{recordOf, entriesOf}
-use Rattle.lamp.specs.Lamp.{Row, blockRows, positionRows, checkRows, sheetRows, postRows}
-use Rattle.lamp.specs.Given.{Reply, accepted, refused, given, checkReply, NoneApplies, Fixed, accepts, refuses}
+use Rattle.lamp.specs.Lamp.{blockRows, positionRows, checkRows, sheetRows, postRows}
+use Rattle.lamp.specs.Given.{Reply, accepted, refused, checkReply, NoneApplies}
 use Rattle.unit.specs.Replies.{stageAt, sheetReply, bufferFor, bufferAfter, postReply}
 use Rattle.unit.specs.Demands.{Services, thePaper, Accepted, Refused, Demand1, Sound, Demand2, Demand3}
 use Rattle.lamp.specs.Held.{headRows}

@@ -1,8 +1,8 @@
 -- What stands on a sheet: the entries of an accepted call are the stage's points, so demand 3 holds of them.
 use Prim.Native.Nat.{ℕ, zero, suc, _+_, _*_, _-_, _≤_, _<_}
-use mathlib.Core.Path.{_≡_, refl, sym, ap, _∙_, subst, subst⁻¹}
-use mathlib.Core.Bool.{Bool, true, false, _||_, true≢false}
-use mathlib.Core.Logic.{_⊎_, inl, inr}
+use mathlib.Core.Path.{_≡_, refl, sym, ap, _∙_, subst}
+use mathlib.Core.Bool.{Bool, true, false, true≢false}
+use mathlib.Core.Logic.{inl, inr}
 use mathlib.Core.List.{List, [], _∷_, _++_, flatMap}
 use native.Mathlib.Omega.{arith}
 use native.Mathlib.Decide.{decLt}
@@ -10,7 +10,6 @@ use lib.Dec.{ltb, eqb}
 use lib.ListN.{length, getD, take, drop, length-take}
 use lib.Seq.{getD-take}
 use borrow.Author.Tests.{eq-eqb, eqb-true, ltb-false}
-use Rattle.words.specs.First.{first}
 use Rattle.words.specs.Lists.{In}
 use Rattle.words.specs.Positions.{post}
 use Rattle.words.proofs.First.{first-is}
@@ -18,15 +17,14 @@ use Rattle.words.proofs.Positions.{in-take, take-in, post-suc}
 use Rattle.words.proofs.Tests.{neither}
 use Rattle.block.specs.Block.{posts, order, lists}
 use Rattle.rings.specs.Plane.{Wire}
-use Rattle.order.proofs.Sound.{Passes}
-use Rattle.placing.specs.Stages.{Stage, stage}
+use Rattle.placing.specs.Stages.{stage}
 use Rattle.placing.specs.Records.{entriesOf}
 use Rattle.placing.proofs.Steps.{stage-placed}
-use Rattle.drawing.specs.Meeting.{Places, Point, On, At, Same, End, OnGrid, NoneMeet}
-use Rattle.lamp.specs.Lamp.{Row, checkRows, stageRow, roomRow, sheetRows}
-use Rattle.lamp.specs.Given.{Reply, accepted, refused, given, NoneApplies}
+use Rattle.drawing.specs.Meeting.{Places, Point, On, At, End, OnGrid, NoneMeet}
+use Rattle.lamp.specs.Lamp.{checkRows, stageRow, roomRow, sheetRows}
+use Rattle.lamp.specs.Given.{NoneApplies}
 use Rattle.unit.specs.Replies.{stageAt, sheetReply}
-use Rattle.unit.specs.Demands.{Services, thePaper, Accepted, places, Placed, Moves, Demand2, positionOf, onSheet, Safe, SafeSheets}
+use Rattle.unit.specs.Demands.{thePaper, Accepted, places, Placed, Moves, positionOf, onSheet, Safe, SafeSheets}
 use Rattle.lamp.proofs.Given.{given-says}
 use Rattle.lamp.proofs.Sounds.{order-length}
 use Rattle.lamp.proofs.Accepts.{none-left, none-right, lists-count, none-passes}

@@ -11,7 +11,6 @@ use Rattle.words.specs.Positions.{post}
 use Rattle.block.specs.Block.{posts, order, lists, Framed}
 use Rattle.rings.specs.Plane.{Plane, Wire}
 use Rattle.order.specs.Canonical.{Canonical}
-use Rattle.placing.specs.Stages.{Stage, stage}
 use Rattle.placing.specs.Records.{recordOf, entriesOf}
 use Rattle.placing.specs.declared.Record.{Record}
 use Rattle.drawing.specs.Meeting.{Places, OnGrid, NoneMeet}

@@ -1,7 +1,7 @@
 // The unit: its three services. specs/ has their replies and the three demands; the refusals and the table are lamp's.
 ghost use mathlib.Core.Path.{_≡_};
 ghost use mathlib.Core.List.{_++_};
-ghost use Prim.Native.Nat.{ℕ, _+_, _*_, _≤_, _<_};
+ghost use Prim.Native.Nat.{_+_, _*_, _≤_, _<_};
 ghost use lib.ListN.{length, take, drop};
 ghost use Rattle.block.specs.Layout.{limit, entries};
 ghost use Rattle.rings.specs.Held.{held};

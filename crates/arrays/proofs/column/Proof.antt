@@ -1,8 +1,6 @@
 use borrow.Author.Needs.{needs}
 use Rattle.arrays.proofs.column.Statement.{statement}
 use Rattle.arrays.proofs.column.Tie as tie
-use Rattle.arrays.proofs.column.Reads as reads
-use Rattle.arrays.proofs.column.Lts as lts
 use mathlib.Core.Path.{refl}
 use native.Mathlib.Omega.{arith}
 use borrow.Author.Tests.{eq-eqb, ne-eqb}

@@ -1,8 +1,6 @@
 use borrow.Author.Needs.{needs}
 use Rattle.arrays.proofs.half_drop.Statement.{statement}
 use Rattle.arrays.proofs.half_drop.Tie as tie
-use Rattle.arrays.proofs.half_drop.Reads as reads
-use Rattle.arrays.proofs.half_drop.Lts as lts
 use Prim.Native.Nat.{_+_, _-_, _/_}
 use mir.Syntax.{w32}
 use mir.Facts.{toZ-pos}

@@ -1,8 +1,6 @@
 use borrow.Author.Needs.{needs}
 use Rattle.arrays.proofs.half_rise.Statement.{statement}
 use Rattle.arrays.proofs.half_rise.Tie as tie
-use Rattle.arrays.proofs.half_rise.Reads as reads
-use Rattle.arrays.proofs.half_rise.Lts as lts
 use Prim.Native.Nat.{_+_, _/_}
 use mir.Syntax.{w32}
 use mir.Facts.{toZ-pos}

@@ -1,11 +1,7 @@
 use Rattle.arrays.proofs.hang.Statement.{statement}
 use Rattle.arrays.proofs.hang.Tie as tie
-use Rattle.arrays.proofs.hang.Reads as reads
-use Rattle.arrays.proofs.hang.Lts as lts
-use Rattle.words.proofs.number.Reads as number-reads
 use native.Mathlib.Omega.{arith}
 use Prim.Native.Nat.{_-_}
-use mathlib.Core.Path.{refl}
 use Rattle.arrays.proofs.Paths.{Hang, hang-start, hang-end, hang-right, hang-off, hang-cover, hang-fits, hang-again}
 use borrow.Author.Needs.{needs}
 

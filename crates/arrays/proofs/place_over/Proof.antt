@@ -1,14 +1,6 @@
 use borrow.Author.Needs.{needs}
 use Rattle.arrays.proofs.place_over.Statement.{statement}
 use Rattle.arrays.proofs.place_over.Tie as tie
-use Rattle.arrays.proofs.place_over.Reads as reads
-use Rattle.arrays.proofs.place_over.Lts as lts
-use Rattle.arrays.proofs.half_drop.Reads as half-drop-reads
-use Rattle.arrays.proofs.half_rise.Reads as half-rise-reads
-use Rattle.arrays.proofs.hang.Reads as hang-reads
-use Rattle.arrays.proofs.reach_right.Reads as reach-right-reads
-use Rattle.arrays.proofs.two.Reads as two-reads
-use Rattle.words.proofs.number.Reads as number-reads
 use Rattle.arrays.proofs.Made.{drop-ready, rise-ready, far-ready, hang-ready, made}
 
 sub-reach-right : tie.Need-sub-reach-right

@@ -1,8 +1,5 @@
 use Rattle.arrays.proofs.reach_right.Statement.{statement}
 use Rattle.arrays.proofs.reach_right.Tie as tie
-use Rattle.arrays.proofs.reach_right.Reads as reads
-use Rattle.arrays.proofs.reach_right.Lts as lts
-use Rattle.words.proofs.number.Reads as number-reads
 use native.Mathlib.Omega.{arith}
 use Prim.Native.Nat.{_-_}
 use mathlib.Core.Path.{refl}

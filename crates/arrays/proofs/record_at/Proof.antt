@@ -1,10 +1,6 @@
 use borrow.Author.Needs.{needs}
 use Rattle.arrays.proofs.record_at.Statement.{statement}
 use Rattle.arrays.proofs.record_at.Tie as tie
-use Rattle.arrays.proofs.record_at.Reads as reads
-use Rattle.arrays.proofs.record_at.Lts as lts
-use Rattle.order.proofs.is_before.Reads as is-before-reads
-use Rattle.words.proofs.number.Reads as number-reads
 use Rattle.arrays.proofs.Writing.{record-waiting, record-on, record-covered}
 
 add-is-before : tie.Need-add-is-before

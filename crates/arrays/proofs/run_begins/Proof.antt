@@ -1,13 +1,9 @@
 use Rattle.arrays.proofs.run_begins.Statement.{statement}
 use Rattle.arrays.proofs.run_begins.Tie as tie
-use Rattle.arrays.proofs.run_begins.Reads as reads
-use Rattle.arrays.proofs.run_begins.Lts as lts
-use Rattle.arrays.proofs.begins.Reads as begins-reads
-use Rattle.order.proofs.is_before.Reads as is-before-reads
 use native.Mathlib.Omega.{arith}
-use Prim.Native.Nat.{_≤_, _+_, _-_}
+use Prim.Native.Nat.{_≤_, _-_}
 use mathlib.Core.Path.{_≡_, refl, sym, _∙_}
-use lib.ListN.{length, getD}
+use lib.ListN.{getD}
 use lib.Seq.{slice}
 use Rattle.arrays.specs.Opens.{before, opens}
 use Rattle.arrays.proofs.Opens.{opens-here, opens-next, opens-end}

@@ -1,9 +1,5 @@
 use Rattle.arrays.proofs.settle.Statement.{statement}
 use Rattle.arrays.proofs.settle.Tie as tie
-use Rattle.arrays.proofs.settle.Reads as reads
-use Rattle.arrays.proofs.settle.Lts as lts
-use Rattle.arrays.proofs.column.Reads as column-reads
-use Rattle.words.proofs.number.Reads as number-reads
 use native.Mathlib.Omega.{arith}
 use mathlib.Core.Path.{refl}
 use Rattle.arrays.proofs.Reading.{Settling, settle-start, settle-done, settle-cover, settle-xs, settle-ready, settle-again}

@@ -1,8 +1,5 @@
 use Rattle.arrays.proofs.spread.Statement.{statement}
 use Rattle.arrays.proofs.spread.Tie as tie
-use Rattle.arrays.proofs.spread.Reads as reads
-use Rattle.arrays.proofs.spread.Lts as lts
-use Rattle.words.proofs.number.Reads as number-reads
 use native.Mathlib.Omega.{arith}
 use Prim.Native.Nat.{_-_}
 use Rattle.arrays.proofs.Reading.{Spread, spread-start, spread-done, spread-right, spread-off, spread-xs, spread-fits, spread-same, spread-end, spread-again}

@@ -1,10 +1,6 @@
 use borrow.Author.Needs.{needs}
 use Rattle.arrays.proofs.three.Statement.{statement}
 use Rattle.arrays.proofs.three.Tie as tie
-use Rattle.arrays.proofs.three.Reads as reads
-use Rattle.arrays.proofs.three.Lts as lts
-use Rattle.arrays.proofs.two.Reads as two-reads
-use Rattle.words.proofs.number.Reads as number-reads
 use mathlib.Core.Path.{refl}
 
 two-requires : tie.Need-two-requires

@@ -1,9 +1,6 @@
 use borrow.Author.Needs.{needs}
 use Rattle.arrays.proofs.two.Statement.{statement}
 use Rattle.arrays.proofs.two.Tie as tie
-use Rattle.arrays.proofs.two.Reads as reads
-use Rattle.arrays.proofs.two.Lts as lts
-use Rattle.words.proofs.number.Reads as number-reads
 use native.Mathlib.Omega.{arith}
 use mathlib.Core.Path.{refl}
 use lib.ListN.{length-set}

@@ -1,8 +1,5 @@
 use Rattle.arrays.proofs.write_sheet.Statement.{statement}
 use Rattle.arrays.proofs.write_sheet.Tie as tie
-use Rattle.arrays.proofs.write_sheet.Reads as reads
-use Rattle.arrays.proofs.write_sheet.Lts as lts
-use Rattle.words.proofs.number.Reads as number-reads
 use native.Mathlib.Omega.{arith}
 use Prim.Native.Nat.{_-_}
 use Rattle.arrays.proofs.Writing.{Writing, write-start, write-done, write-again}

@@ -1,13 +1,10 @@
 use Rattle.block.proofs.first_bad_degree.Statement.{statement}
 use Rattle.block.proofs.first_bad_degree.Tie as tie
-use Rattle.block.proofs.first_bad_degree.Reads as reads
-use Rattle.block.proofs.first_bad_degree.Lts as lts
-use Rattle.words.proofs.number.Reads as number-reads
 use native.Mathlib.Omega.{arith}
-use Prim.Native.Nat.{_≤_, _+_, _-_, _<_}
+use Prim.Native.Nat.{_≤_, _-_}
 use mathlib.Core.Path.{_≡_, refl, sym, _∙_}
 use native.Mathlib.Nat.{sub-zero}
-use lib.ListN.{length, getD}
+use lib.ListN.{length}
 use Rattle.words.specs.First.{first}
 use Rattle.words.proofs.First.{first-here, first-next, first-end}
 use Rattle.block.specs.Block.{badDegree}

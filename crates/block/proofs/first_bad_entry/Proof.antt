@@ -1,17 +1,10 @@
 use Rattle.block.proofs.first_bad_entry.Statement.{statement}
 use Rattle.block.proofs.first_bad_entry.Tie as tie
-use Rattle.block.proofs.first_bad_entry.Reads as reads
-use Rattle.block.proofs.first_bad_entry.Lts as lts
-use Rattle.words.proofs.number.Reads as number-reads
 use native.Mathlib.Omega.{arith}
-use Prim.Native.Nat.{ℕ, _≤_, _+_, _-_, _<_}
-use mathlib.Core.Path.{_≡_, refl, sym, ap, _∙_}
-use mathlib.Core.Bool.{Bool, true, false}
-use lib.Dec.{eqb}
-use lib.ListN.{length, getD, take, set}
-use borrow.Author.Tests.{eq-eqb, ne-eqb}
+use Prim.Native.Nat.{_≤_, _+_, _-_}
+use mathlib.Core.Path.{_≡_, refl, sym, _∙_}
+use lib.ListN.{length}
 use Rattle.words.specs.First.{first}
-use Rattle.words.specs.Positions.{post, earlier}
 use Rattle.words.proofs.First.{first-here, first-next, first-end}
 use Rattle.block.specs.Block.{badEntry}
 use Rattle.block.proofs.Laws.{entry-high, entry-low, Marked, unmarked, seen, unseen, mark-more}

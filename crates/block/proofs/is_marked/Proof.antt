@@ -1,9 +1,6 @@
 use borrow.Author.Needs.{needs}
 use Rattle.block.proofs.is_marked.Statement.{statement}
 use Rattle.block.proofs.is_marked.Tie as tie
-use Rattle.block.proofs.is_marked.Reads as reads
-use Rattle.block.proofs.is_marked.Lts as lts
-use mathlib.Core.Path.{sym}
 use Rattle.block.proofs.Laws.{mark-first, mark-second, mark-third}
 
 shared-slice-read-if1 : tie.Need-shared-slice-read-if1

@@ -1,7 +1,5 @@
 use Rattle.block.proofs.no_marks.Statement.{statement}
 use Rattle.block.proofs.no_marks.Tie as tie
-use Rattle.block.proofs.no_marks.Reads as reads
-use Rattle.block.proofs.no_marks.Lts as lts
 use Rattle.block.proofs.Laws.{zeros-at}
 use borrow.Author.Needs.{needs}
 

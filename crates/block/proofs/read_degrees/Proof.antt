@@ -1,13 +1,8 @@
 use borrow.Author.Needs.{needs}
 use Rattle.block.proofs.read_degrees.Statement.{statement}
 use Rattle.block.proofs.read_degrees.Tie as tie
-use Rattle.block.proofs.read_degrees.Reads as reads
-use Rattle.block.proofs.read_degrees.Lts as lts
-use Rattle.block.proofs.Block.degrees_at.Reads as degrees-at-reads
-use Rattle.block.proofs.first_bad_degree.Reads as first-bad-degree-reads
-use Rattle.words.proofs.unpack.Reads as unpack-reads
 use native.Mathlib.Omega.{arith}
-use mathlib.Core.Path.{_≡_, refl, sym, ap, _∙_}
+use mathlib.Core.Path.{sym}
 use Rattle.block.specs.Block.{degrees, badDegree}
 use Rattle.block.proofs.Laws.{unpacked-length, degrees-read, same-first}
 

@@ -1,13 +1,8 @@
 use borrow.Author.Needs.{needs}
 use Rattle.block.proofs.read_order.Statement.{statement}
 use Rattle.block.proofs.read_order.Tie as tie
-use Rattle.block.proofs.read_order.Reads as reads
-use Rattle.block.proofs.read_order.Lts as lts
-use Rattle.block.proofs.first_bad_entry.Reads as first-bad-entry-reads
-use Rattle.block.proofs.no_marks.Reads as no-marks-reads
-use Rattle.words.proofs.unpack.Reads as unpack-reads
 use native.Mathlib.Omega.{arith}
-use mathlib.Core.Path.{_≡_, refl, sym, ap, _∙_}
+use mathlib.Core.Path.{sym}
 use Rattle.block.specs.Layout.{orderAt}
 use Rattle.block.specs.Block.{order, badEntry}
 use Rattle.block.proofs.Laws.{unpacked-length, order-read, same-first}

@@ -1,10 +1,8 @@
 use Rattle.block.proofs.starts.Statement.{statement}
 use Rattle.block.proofs.starts.Tie as tie
-use Rattle.block.proofs.starts.Reads as reads
-use Rattle.block.proofs.starts.Lts as lts
 use native.Mathlib.Omega.{arith}
-use Prim.Native.Nat.{ℕ, _≤_, _+_, _*_, _-_, _<_}
-use mathlib.Core.Path.{_≡_, sym, ap, _∙_}
+use Prim.Native.Nat.{ℕ, _≤_, _+_, _-_, _<_}
+use mathlib.Core.Path.{_≡_, sym}
 use lib.ListN.{length, getD, take, length-set}
 use Rattle.words.specs.Numbers.{sumOf}
 use Rattle.words.proofs.Numbers.{sum-step, sum-none, sum-part}

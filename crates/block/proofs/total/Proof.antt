@@ -1,10 +1,7 @@
 use Rattle.block.proofs.total.Statement.{statement}
 use Rattle.block.proofs.total.Tie as tie
-use Rattle.block.proofs.total.Reads as reads
-use Rattle.block.proofs.total.Lts as lts
-use Rattle.words.proofs.number.Reads as number-reads
 use native.Mathlib.Omega.{arith}
-use Prim.Native.Nat.{ℕ, _≤_, _+_, _*_, _-_, _<_}
+use Prim.Native.Nat.{ℕ, _≤_, _*_, _-_}
 use mathlib.Core.Path.{_≡_, sym, ap, _∙_}
 use lib.ListN.{length, take}
 use lib.Seq.{take-length}

@@ -1,13 +1,9 @@
 use borrow.Author.Needs.{needs}
 use Rattle.capi.proofs.code.Statement.{statement}
 use Rattle.capi.proofs.code.Tie as tie
-use Rattle.capi.proofs.code.Reads as reads
-use Rattle.capi.proofs.code.Lts as lts
-use Rattle.capi.proofs.refusal_code.Reads as refusal-code-reads
-use mathlib.Core.Path.{_≡_, refl, sym, ap, _∙_}
-use Rattle.capi.specs.Codes.{codeOf, postOf}
+use mathlib.Core.Path.{sym, ap, _∙_}
+use Rattle.capi.specs.Codes.{codeOf}
 use Rattle.lamp.specs.Refusals.{replyOf}
-use Rattle.unit.specs.Replies.{postedOf}
 
 enum-known-a : tie.Need-enum-known-a
 enum-known-a c = search needs

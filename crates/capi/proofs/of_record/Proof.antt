@@ -1,15 +1,7 @@
 use borrow.Author.Needs.{needs}
 use Rattle.capi.proofs.of_record.Statement.{statement}
 use Rattle.capi.proofs.of_record.Tie as tie
-use Rattle.capi.proofs.of_record.Reads as reads
-use Rattle.capi.proofs.of_record.Lts as lts
-use Rattle.capi.proofs.first.Reads as first-reads
-use Rattle.capi.proofs.second.Reads as second-reads
-use Rattle.capi.proofs.standing_code.Reads as standing-code-reads
-use mathlib.Core.Path.{_≡_, refl, sym, ap, _∙_}
-use Rattle.capi.specs.Codes.{codeOf, postOf}
-use Rattle.lamp.specs.Refusals.{replyOf}
-use Rattle.unit.specs.Replies.{postedOf}
+use mathlib.Core.Path.{refl}
 
 standing-code-requires : tie.Need-standing-code-requires
 standing-code-requires c κs = search needs

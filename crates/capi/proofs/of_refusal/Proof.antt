@@ -1,13 +1,7 @@
 use borrow.Author.Needs.{needs}
 use Rattle.capi.proofs.of_refusal.Statement.{statement}
 use Rattle.capi.proofs.of_refusal.Tie as tie
-use Rattle.capi.proofs.of_refusal.Reads as reads
-use Rattle.capi.proofs.of_refusal.Lts as lts
-use Rattle.capi.proofs.refusal_code.Reads as refusal-code-reads
-use mathlib.Core.Path.{_≡_, refl, sym, ap, _∙_}
-use Rattle.capi.specs.Codes.{codeOf, postOf}
-use Rattle.lamp.specs.Refusals.{replyOf}
-use Rattle.unit.specs.Replies.{postedOf}
+use mathlib.Core.Path.{refl}
 
 refusal-code-requires : tie.Need-refusal-code-requires
 refusal-code-requires c κs = search needs

@@ -1,14 +1,8 @@
 use borrow.Author.Needs.{needs}
 use Rattle.capi.proofs.pgb_check.Statement.{statement}
 use Rattle.capi.proofs.pgb_check.Tie as tie
-use Rattle.capi.proofs.pgb_check.Reads as reads
-use Rattle.capi.proofs.pgb_check.Lts as lts
-use Rattle.capi.proofs.code.Reads as code-reads
-use Rattle.unit.proofs.check.Reads as check-reads
-use mathlib.Core.Path.{_≡_, refl, sym, ap, _∙_}
-use Rattle.capi.specs.Codes.{codeOf, postOf}
-use Rattle.lamp.specs.Refusals.{replyOf}
-use Rattle.unit.specs.Replies.{postedOf}
+use mathlib.Core.Path.{ap, _∙_}
+use Rattle.capi.specs.Codes.{codeOf}
 
 check-requires : tie.Need-check-requires
 check-requires c κs = search needs

@@ -1,14 +1,8 @@
 use borrow.Author.Needs.{needs}
 use Rattle.capi.proofs.pgb_post.Statement.{statement}
 use Rattle.capi.proofs.pgb_post.Tie as tie
-use Rattle.capi.proofs.pgb_post.Reads as reads
-use Rattle.capi.proofs.pgb_post.Lts as lts
-use Rattle.capi.proofs.of_record.Reads as of-record-reads
-use Rattle.capi.proofs.of_refusal.Reads as of-refusal-reads
-use Rattle.unit.proofs.post.Reads as post-reads
-use mathlib.Core.Path.{_≡_, refl, sym, ap, _∙_}
-use Rattle.capi.specs.Codes.{codeOf, postOf}
-use Rattle.lamp.specs.Refusals.{replyOf}
+use mathlib.Core.Path.{sym, ap, _∙_}
+use Rattle.capi.specs.Codes.{postOf}
 use Rattle.unit.specs.Replies.{postedOf}
 
 post-requires : tie.Need-post-requires

@@ -1,14 +1,8 @@
 use borrow.Author.Needs.{needs}
 use Rattle.capi.proofs.pgb_sheet.Statement.{statement}
 use Rattle.capi.proofs.pgb_sheet.Tie as tie
-use Rattle.capi.proofs.pgb_sheet.Reads as reads
-use Rattle.capi.proofs.pgb_sheet.Lts as lts
-use Rattle.capi.proofs.code.Reads as code-reads
-use Rattle.unit.proofs.sheet.Reads as sheet-reads
-use mathlib.Core.Path.{_≡_, refl, sym, ap, _∙_}
-use Rattle.capi.specs.Codes.{codeOf, postOf}
-use Rattle.lamp.specs.Refusals.{replyOf}
-use Rattle.unit.specs.Replies.{postedOf}
+use mathlib.Core.Path.{ap, _∙_}
+use Rattle.capi.specs.Codes.{codeOf}
 
 sheet-requires : tie.Need-sheet-requires
 sheet-requires c κs = search needs

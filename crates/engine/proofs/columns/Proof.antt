@@ -1,11 +1,7 @@
 use borrow.Author.Needs.{needs}
 use Rattle.engine.proofs.columns.Statement.{statement}
 use Rattle.engine.proofs.columns.Tie as tie
-use Rattle.engine.proofs.columns.Reads as reads
-use Rattle.engine.proofs.columns.Lts as lts
-use Rattle.arrays.proofs.settle.Reads as settle-reads
-use Rattle.arrays.proofs.spread.Reads as spread-reads
-use mathlib.Core.Path.{refl, ap, _∙_}
+use mathlib.Core.Path.{refl, _∙_}
 use Rattle.engine.proofs.Read.{laid-ready}
 
 shared-slice-read-spread : tie.Need-shared-slice-read-spread

@@ -1,10 +1,6 @@
 use borrow.Author.Needs.{needs}
 use Rattle.engine.proofs.draw.Statement.{statement}
 use Rattle.engine.proofs.draw.Tie as tie
-use Rattle.engine.proofs.draw.Reads as reads
-use Rattle.engine.proofs.draw.Lts as lts
-use Rattle.engine.proofs.columns.Reads as columns-reads
-use Rattle.engine.proofs.reach.Reads as reach-reads
 use Rattle.engine.proofs.Read.{readable, drawn}
 
 reach-requires : tie.Need-reach-requires

@@ -1,12 +1,6 @@
 use borrow.Author.Needs.{needs}
 use Rattle.engine.proofs.place_next.Statement.{statement}
 use Rattle.engine.proofs.place_next.Tie as tie
-use Rattle.engine.proofs.place_next.Reads as reads
-use Rattle.engine.proofs.place_next.Lts as lts
-use Rattle.arrays.proofs.place_over.Reads as place-over-reads
-use Rattle.arrays.proofs.run_begins.Reads as run-begins-reads
-use Rattle.order.proofs.count_before.Reads as count-before-reads
-use Rattle.words.proofs.number.Reads as number-reads
 use mathlib.Core.Path.{refl}
 use native.Mathlib.Omega.{arith}
 use Rattle.engine.proofs.Next.{j-below, in-ents, some, named, ranked, next-ready, next-holds}

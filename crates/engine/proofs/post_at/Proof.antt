@@ -1,9 +1,5 @@
 use Rattle.engine.proofs.post_at.Statement.{statement}
 use Rattle.engine.proofs.post_at.Tie as tie
-use Rattle.engine.proofs.post_at.Reads as reads
-use Rattle.engine.proofs.post_at.Lts as lts
-use Rattle.engine.proofs.draw.Reads as draw-reads
-use Rattle.arrays.proofs.record_at.Reads as record-at-reads
 use mathlib.Core.Path.{_∙_}
 use Rattle.engine.proofs.Given.{record-is, record-ready}
 use borrow.Author.Needs.{needs}

@@ -1,12 +1,8 @@
 use Rattle.engine.proofs.reach.Statement.{statement}
 use Rattle.engine.proofs.reach.Tie as tie
-use Rattle.engine.proofs.reach.Reads as reads
-use Rattle.engine.proofs.reach.Lts as lts
-use Rattle.engine.proofs.place_next.Reads as place-next-reads
-use Rattle.engine.proofs.start.Reads as start-reads
 use native.Mathlib.Omega.{arith}
 use Prim.Native.Nat.{ℕ, _≤_, _-_}
-use mathlib.Core.Path.{_≡_, refl, subst}
+use mathlib.Core.Path.{_≡_, subst}
 use lib.ListN.{length}
 use Rattle.engine.specs.Shows.{Holds}
 use Rattle.engine.proofs.Third.{corners, third-holds}

@@ -1,10 +1,6 @@
 use borrow.Author.Needs.{needs}
 use Rattle.engine.proofs.sheet_at.Statement.{statement}
 use Rattle.engine.proofs.sheet_at.Tie as tie
-use Rattle.engine.proofs.sheet_at.Reads as reads
-use Rattle.engine.proofs.sheet_at.Lts as lts
-use Rattle.engine.proofs.draw.Reads as draw-reads
-use Rattle.arrays.proofs.write_sheet.Reads as write-sheet-reads
 use native.Mathlib.Omega.{arith}
 use Prim.Native.Nat.{ℕ}
 use Rattle.engine.proofs.Given.{names-fit, sheet-is}

@@ -1,9 +1,6 @@
 use borrow.Author.Needs.{needs}
 use Rattle.engine.proofs.start.Statement.{statement}
 use Rattle.engine.proofs.start.Tie as tie
-use Rattle.engine.proofs.start.Reads as reads
-use Rattle.engine.proofs.start.Lts as lts
-use Rattle.arrays.proofs.three.Reads as three-reads
 use Rattle.engine.proofs.Third.{start-shows}
 
 three-requires : tie.Need-three-requires

@@ -1,12 +1,6 @@
 use borrow.Author.Needs.{needs}
 use Rattle.lamp.proofs.board.Statement.{statement}
 use Rattle.lamp.proofs.board.Tie as tie
-use Rattle.lamp.proofs.board.Reads as reads
-use Rattle.lamp.proofs.board.Lts as lts
-use Rattle.rings.proofs.first_bad_ring.Reads as first-bad-ring-reads
-use Rattle.rings.proofs.first_bad_triangle.Reads as first-bad-triangle-reads
-use Rattle.rings.proofs.is_outer.Reads as is-outer-reads
-use native.Mathlib.Omega.{arith}
 use borrow.Author.Tests.{not-true, not-false}
 use Rattle.lamp.proofs.Rows.{rings-bad, triangles-bad, outer-bad, outer-fine}
 

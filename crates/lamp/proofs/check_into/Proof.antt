@@ -1,24 +1,15 @@
 use borrow.Author.Needs.{needs}
 use Rattle.lamp.proofs.check_into.Statement.{statement}
 use Rattle.lamp.proofs.check_into.Tie as tie
-use Rattle.lamp.proofs.check_into.Reads as reads
-use Rattle.lamp.proofs.check_into.Lts as lts
-use Rattle.block.proofs.Block.entries.Reads as entries-reads
-use Rattle.lamp.proofs.header.Reads as header-reads
-use Rattle.lamp.proofs.load.Reads as load-reads
-use Rattle.lamp.proofs.order_and_board.Reads as order-and-board-reads
-use Rattle.words.proofs.number.Reads as number-reads
 use native.Mathlib.Omega.{arith}
-use Prim.Native.Nat.{ℕ, _+_, _≤_, _<_}
-use mathlib.Core.Path.{_≡_, refl, sym, ap, _∙_, subst, subst⁻¹}
-use mathlib.Core.List.{List, _++_}
-use lib.ListN.{length, take}
+use Prim.Native.Nat.{ℕ, _+_}
+use mathlib.Core.Path.{sym, ap, _∙_, subst, subst⁻¹}
+use mathlib.Core.List.{_++_}
+use lib.ListN.{take}
 use lib.Seq.{length-take-le}
-use Rattle.block.specs.Layout.{limit, entries}
-use Rattle.block.specs.Block.{posts, order}
-use Rattle.lamp.specs.Given.{accepted, given}
+use Rattle.block.specs.Block.{posts}
 use Rattle.lamp.specs.Refusals.{numberOf, placeOf, replyOf}
-use Rattle.lamp.specs.Held.{headRows, listRows, ringRows, rowsFrom, Headed, Holds, Laid}
+use Rattle.lamp.specs.Held.{headRows, listRows, ringRows, rowsFrom, Laid}
 use Rattle.lamp.proofs.Given.{not-both}
 use Rattle.lamp.proofs.Sounds.{entered, laid, part-refused, part-passed, part-none, whole-table, headed-as, accepted-is, ready}
 

@@ -1,15 +1,11 @@
 use Rattle.lamp.proofs.fitting.Statement.{statement}
 use Rattle.lamp.proofs.fitting.Tie as tie
-use Rattle.lamp.proofs.fitting.Reads as reads
-use Rattle.lamp.proofs.fitting.Lts as lts
-use Rattle.lamp.proofs.position.Reads as position-reads
 use native.Mathlib.Omega.{arith}
-use Prim.Native.Nat.{ℕ, _+_, _-_, _≤_, _<_}
+use Prim.Native.Nat.{_+_, _-_, _≤_}
 use mathlib.Core.Path.{_≡_, refl, sym, ap, _∙_}
 use lib.ListN.{length}
 use Rattle.block.specs.Block.{posts}
-use Rattle.lamp.specs.Lamp.{positionRows}
-use Rattle.lamp.specs.Given.{Reply, accepted, refused, given}
+use Rattle.lamp.specs.Given.{accepted, given}
 use Rattle.lamp.specs.Refusals.{numberOf, placeOf, replyOf}
 use Rattle.lamp.specs.Held.{rowsFrom}
 use Rattle.lamp.proofs.Given.{given-end}

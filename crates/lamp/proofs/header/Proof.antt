@@ -1,24 +1,14 @@
 use borrow.Author.Needs.{needs}
 use Rattle.lamp.proofs.header.Statement.{statement}
 use Rattle.lamp.proofs.header.Tie as tie
-use Rattle.lamp.proofs.header.Reads as reads
-use Rattle.lamp.proofs.header.Lts as lts
-use Rattle.block.proofs.Block.size.Reads as size-reads
-use Rattle.block.proofs.Block.sum_at.Reads as sum-at-reads
-use Rattle.block.proofs.is_marked.Reads as is-marked-reads
-use Rattle.words.proofs.number.Reads as number-reads
-use Rattle.words.proofs.sum.Reads as sum-reads
-use Rattle.words.proofs.word.Reads as word-reads
-use native.Mathlib.Omega.{arith}
-use Prim.Native.Nat.{ℕ, _≤_, _<_}
-use mathlib.Core.Path.{_≡_, refl, sym, ap, _∙_}
-use mathlib.Core.Bool.{Bool, true, false, not}
+use Prim.Native.Nat.{ℕ}
+use mathlib.Core.Path.{_≡_, sym, ap, _∙_}
 use borrow.Author.Tests.{not-true, not-false}
 use Rattle.words.specs.Numbers.{wordAt, wrapped}
 use lib.ListN.{take}
 use Rattle.lamp.specs.Given.{accepted}
-use Rattle.block.specs.Layout.{limit, sumAt, size}
-use Rattle.block.specs.Block.{version, posts, statedSum, earlierSum, marked}
+use Rattle.block.specs.Layout.{sumAt, size}
+use Rattle.block.specs.Block.{posts, statedSum, earlierSum}
 use Rattle.lamp.proofs.Heads.{head-short, head-mark, head-version, head-few, head-many, head-length, head-sum, head-fine}
 
 returns : tie.Need-returns

@@ -1,20 +1,9 @@
 use borrow.Author.Needs.{needs}
 use Rattle.lamp.proofs.load.Statement.{statement}
 use Rattle.lamp.proofs.load.Tie as tie
-use Rattle.lamp.proofs.load.Reads as reads
-use Rattle.lamp.proofs.load.Lts as lts
-use Rattle.block.proofs.Block.entries.Reads as entries-reads
-use Rattle.block.proofs.read_degrees.Reads as read-degrees-reads
-use Rattle.block.proofs.read_order.Reads as read-order-reads
-use Rattle.block.proofs.total.Reads as total-reads
-use Rattle.rings.proofs.read_lists.Reads as read-lists-reads
 use native.Mathlib.Omega.{arith}
-use Prim.Native.Nat.{ℕ, _+_, _≤_, _<_}
-use mathlib.Core.Path.{_≡_, refl, sym, ap, _∙_}
-use lib.ListN.{length, take}
+use mathlib.Core.Path.{sym, ap, _∙_}
 use Rattle.words.specs.Numbers.{sumOf}
-use Rattle.block.specs.Layout.{entries}
-use Rattle.block.specs.Block.{posts, order, degrees}
 use Rattle.rings.proofs.Read.{degrees-count}
 use Rattle.lamp.proofs.Given.{not-both}
 use Rattle.lamp.proofs.Loads.{list-order, list-degree, list-total, list-fine}

@@ -1,18 +1,11 @@
 use borrow.Author.Needs.{needs}
 use Rattle.lamp.proofs.order_and_board.Statement.{statement}
 use Rattle.lamp.proofs.order_and_board.Tie as tie
-use Rattle.lamp.proofs.order_and_board.Reads as reads
-use Rattle.lamp.proofs.order_and_board.Lts as lts
-use Rattle.order.proofs.ranks.Reads as ranks-reads
-use Rattle.lamp.proofs.board.Reads as board-reads
-use Rattle.lamp.proofs.fitting.Reads as fitting-reads
 use native.Mathlib.Omega.{arith}
-use Prim.Native.Nat.{ℕ, _+_, _≤_, _<_}
-use mathlib.Core.Path.{_≡_, refl, sym, ap, _∙_, subst, subst⁻¹}
-use mathlib.Core.Bool.{false}
-use mathlib.Core.List.{List, _++_}
-use lib.ListN.{length}
-use Rattle.block.specs.Block.{posts, order, badEntry}
+use Prim.Native.Nat.{ℕ}
+use mathlib.Core.Path.{sym, ap, _∙_, subst}
+use mathlib.Core.List.{List}
+use Rattle.block.specs.Block.{posts}
 use Rattle.order.specs.Held.{Ranked}
 use Rattle.lamp.specs.Given.{given}
 use Rattle.lamp.specs.Refusals.{numberOf, placeOf, replyOf}

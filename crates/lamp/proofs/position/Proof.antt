@@ -1,19 +1,7 @@
 use borrow.Author.Needs.{needs}
 use Rattle.lamp.proofs.position.Statement.{statement}
 use Rattle.lamp.proofs.position.Tie as tie
-use Rattle.lamp.proofs.position.Reads as reads
-use Rattle.lamp.proofs.position.Lts as lts
-use Rattle.order.proofs.rule_at.Reads as rule-at-reads
-use native.Mathlib.Omega.{arith}
-use Prim.Native.Nat.{ℕ, _≤_, _<_}
-use mathlib.Core.Path.{_≡_, refl, sym, ap, _∙_}
-use mathlib.Core.Bool.{true}
-use mathlib.Core.List.{List}
-use lib.ListN.{length}
-use Rattle.words.specs.Positions.{post}
-use Rattle.block.specs.Block.{order, lists}
-use Rattle.rings.specs.Rings.{ringRule}
-use Rattle.rings.specs.Held.{held}
+use mathlib.Core.Path.{_≡_, sym, ap, _∙_}
 use Rattle.lamp.proofs.Rows.{answerAt, position-found, rule-needs}
 use Rattle.order.specs.declared.Fit.the-variants.{Good, Few, Broken, Last}
 

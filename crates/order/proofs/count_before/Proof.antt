@@ -1,14 +1,10 @@
 use Rattle.order.proofs.count_before.Statement.{statement}
 use Rattle.order.proofs.count_before.Tie as tie
-use Rattle.order.proofs.count_before.Reads as reads
-use Rattle.order.proofs.count_before.Lts as lts
-use Rattle.order.proofs.is_before.Reads as is-before-reads
-use Rattle.order.proofs.one_if.Reads as one-if-reads
 use native.Mathlib.Omega.{arith}
-use Prim.Native.Nat.{ℕ, _≤_, _+_, _-_, _<_}
-use mathlib.Core.Path.{_≡_, refl, sym, ap, _∙_}
+use Prim.Native.Nat.{ℕ, _≤_, _+_, _-_}
+use mathlib.Core.Path.{_≡_, ap, _∙_}
 use mathlib.Core.Bool.{Bool, cond}
-use lib.ListN.{length, getD}
+use lib.ListN.{getD}
 use lib.Seq.{slice}
 use Rattle.words.specs.Lists.{mem, count}
 use Rattle.words.specs.Positions.{earlier}

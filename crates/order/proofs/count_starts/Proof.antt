@@ -1,14 +1,10 @@
 use Rattle.order.proofs.count_starts.Statement.{statement}
 use Rattle.order.proofs.count_starts.Tie as tie
-use Rattle.order.proofs.count_starts.Reads as reads
-use Rattle.order.proofs.count_starts.Lts as lts
-use Rattle.order.proofs.is_start.Reads as is-start-reads
-use Rattle.order.proofs.one_if.Reads as one-if-reads
 use native.Mathlib.Omega.{arith}
-use Prim.Native.Nat.{ℕ, _≤_, _+_, _-_, _<_}
-use mathlib.Core.Path.{_≡_, refl, sym, ap, _∙_}
+use Prim.Native.Nat.{ℕ, _≤_, _+_, _-_}
+use mathlib.Core.Path.{_≡_, ap}
 use mathlib.Core.Bool.{Bool, cond}
-use lib.ListN.{length, getD, drop}
+use lib.ListN.{drop}
 use lib.Seq.{slice}
 use Rattle.words.specs.Positions.{earlier}
 use Rattle.rings.specs.Rings.{around}

@@ -1,9 +1,6 @@
 use borrow.Author.Needs.{needs}
 use Rattle.order.proofs.is_before.Statement.{statement}
 use Rattle.order.proofs.is_before.Tie as tie
-use Rattle.order.proofs.is_before.Reads as reads
-use Rattle.order.proofs.is_before.Lts as lts
-use Rattle.words.proofs.number.Reads as number-reads
 use mathlib.Core.Path.{refl}
 
 number-requires : tie.Need-number-requires

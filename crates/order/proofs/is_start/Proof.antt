@@ -1,12 +1,7 @@
 use borrow.Author.Needs.{needs}
 use Rattle.order.proofs.is_start.Statement.{statement}
 use Rattle.order.proofs.is_start.Tie as tie
-use Rattle.order.proofs.is_start.Reads as reads
-use Rattle.order.proofs.is_start.Lts as lts
-use Rattle.order.proofs.is_before.Reads as is-before-reads
-use Rattle.rings.proofs.after.Reads as after-reads
 use native.Mathlib.Omega.{arith}
-use mathlib.Core.Path.{_≡_, refl, sym, _∙_}
 use Rattle.order.proofs.Ranked.{after-name, start-not, start-if}
 
 mul-is-before : tie.Need-mul-is-before

@@ -1,13 +1,9 @@
 use Rattle.order.proofs.ranks.Statement.{statement}
 use Rattle.order.proofs.ranks.Tie as tie
-use Rattle.order.proofs.ranks.Reads as reads
-use Rattle.order.proofs.ranks.Lts as lts
-use Rattle.words.proofs.number.Reads as number-reads
 use native.Mathlib.Omega.{arith}
-use Prim.Native.Nat.{ℕ, _≤_, _+_, _-_, _<_}
-use mathlib.Core.Path.{_≡_, refl, sym, _∙_}
-use lib.ListN.{length, getD, length-set}
-use Rattle.words.specs.Positions.{post}
+use Prim.Native.Nat.{_≤_, _+_, _-_}
+use mathlib.Core.Path.{_≡_}
+use lib.ListN.{length}
 use Rattle.order.proofs.Sound.{position-says}
 use Rattle.order.proofs.Ranked.{RankedTo, rank-more, ranked}
 use borrow.Author.Needs.{needs}

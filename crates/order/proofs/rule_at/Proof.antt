@@ -1,17 +1,10 @@
 use borrow.Author.Needs.{needs}
 use Rattle.order.proofs.rule_at.Statement.{statement}
 use Rattle.order.proofs.rule_at.Tie as tie
-use Rattle.order.proofs.rule_at.Reads as reads
-use Rattle.order.proofs.rule_at.Lts as lts
-use Rattle.order.proofs.count_before.Reads as count-before-reads
-use Rattle.order.proofs.count_starts.Reads as count-starts-reads
-use Rattle.order.proofs.some_after.Reads as some-after-reads
-use Rattle.words.proofs.number.Reads as number-reads
 use native.Mathlib.Omega.{arith}
-use Prim.Native.Nat.{ℕ, _≤_, _+_, _-_, _<_}
-use mathlib.Core.Path.{_≡_, refl, sym, ap, _∙_}
-use lib.ListN.{length, getD}
-use Rattle.words.specs.Positions.{post, earlier, later}
+use Prim.Native.Nat.{_≤_, _+_, _-_, _<_}
+use lib.ListN.{length}
+use Rattle.words.specs.Positions.{earlier, later}
 use Rattle.order.proofs.Rule.{ring-names, rule-few, rule-broken, rule-end, rule-good, rule-last}
 
 sub-number : tie.Need-sub-number

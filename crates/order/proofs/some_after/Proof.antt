@@ -1,13 +1,10 @@
 use Rattle.order.proofs.some_after.Statement.{statement}
 use Rattle.order.proofs.some_after.Tie as tie
-use Rattle.order.proofs.some_after.Reads as reads
-use Rattle.order.proofs.some_after.Lts as lts
-use Rattle.order.proofs.is_before.Reads as is-before-reads
 use native.Mathlib.Omega.{arith}
-use Prim.Native.Nat.{ℕ, _≤_, _+_, _-_, _<_}
+use Prim.Native.Nat.{_≤_, _-_}
 use mathlib.Core.Path.{_≡_, refl, sym, ap, _∙_}
-use mathlib.Core.Bool.{Bool, true, false, not, _||_}
-use lib.ListN.{length, getD}
+use mathlib.Core.Bool.{not}
+use lib.ListN.{getD}
 use lib.Seq.{slice}
 use Rattle.words.specs.Lists.{mem, anyOf}
 use Rattle.words.specs.Positions.{later}

@@ -1,8 +1,6 @@
 use borrow.Author.Needs.{needs}
 use Rattle.rings.proofs.after.Statement.{statement}
 use Rattle.rings.proofs.after.Tie as tie
-use Rattle.rings.proofs.after.Reads as reads
-use Rattle.rings.proofs.after.Lts as lts
 use native.Mathlib.Omega.{arith}
 use Rattle.rings.proofs.Turns.{around-after, around-first}
 

@@ -1,13 +1,7 @@
 use borrow.Author.Needs.{needs}
 use Rattle.rings.proofs.breaks.Statement.{statement}
 use Rattle.rings.proofs.breaks.Tie as tie
-use Rattle.rings.proofs.breaks.Reads as reads
-use Rattle.rings.proofs.breaks.Lts as lts
-use Rattle.rings.proofs.holds.Reads as holds-reads
-use Rattle.rings.proofs.times.Reads as times-reads
-use Rattle.words.proofs.number.Reads as number-reads
 use native.Mathlib.Omega.{arith}
-use mathlib.Core.Path.{_≡_, refl, sym, ap, _∙_}
 use Rattle.rings.proofs.Held.{breaks-high, breaks-self, breaks-twice, breaks-alone}
 use Prim.Native.Nat.{_+_}
 

@@ -1,12 +1,7 @@
 use borrow.Author.Needs.{needs}
 use Rattle.rings.proofs.closes.Statement.{statement}
 use Rattle.rings.proofs.closes.Tie as tie
-use Rattle.rings.proofs.closes.Reads as reads
-use Rattle.rings.proofs.closes.Lts as lts
-use Rattle.rings.proofs.after.Reads as after-reads
-use Rattle.rings.proofs.is_after.Reads as is-after-reads
 use native.Mathlib.Omega.{arith}
-use mathlib.Core.Path.{_≡_, refl, sym, ap, _∙_}
 use Rattle.rings.proofs.Turns.{around-here}
 
 mul-is-after : tie.Need-mul-is-after

@@ -1,15 +1,11 @@
 use Rattle.rings.proofs.first_bad_ring.Statement.{statement}
 use Rattle.rings.proofs.first_bad_ring.Tie as tie
-use Rattle.rings.proofs.first_bad_ring.Reads as reads
-use Rattle.rings.proofs.first_bad_ring.Lts as lts
-use Rattle.rings.proofs.breaks.Reads as breaks-reads
-use Rattle.words.proofs.number.Reads as number-reads
 use native.Mathlib.Omega.{arith}
-use Prim.Native.Nat.{ℕ, _+_, _-_, _≤_}
-use mathlib.Core.Path.{_≡_, refl, sym, ap, _∙_}
-use mathlib.Core.Bool.{Bool, true, false, not}
+use Prim.Native.Nat.{_+_, _-_, _≤_}
+use mathlib.Core.Path.{_≡_, refl, sym, _∙_}
+use mathlib.Core.Bool.{not}
 use native.Mathlib.Nat.{sub-zero}
-use lib.ListN.{length, getD}
+use lib.ListN.{length}
 use lib.Seq.{slice}
 use Rattle.words.specs.First.{first}
 use Rattle.words.specs.Lists.{allOf}

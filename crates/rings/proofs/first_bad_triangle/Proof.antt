@@ -1,15 +1,11 @@
 use Rattle.rings.proofs.first_bad_triangle.Statement.{statement}
 use Rattle.rings.proofs.first_bad_triangle.Tie as tie
-use Rattle.rings.proofs.first_bad_triangle.Reads as reads
-use Rattle.rings.proofs.first_bad_triangle.Lts as lts
-use Rattle.rings.proofs.closes.Reads as closes-reads
-use Rattle.words.proofs.number.Reads as number-reads
 use native.Mathlib.Omega.{arith}
-use Prim.Native.Nat.{ℕ, _+_, _-_, _≤_}
-use mathlib.Core.Path.{_≡_, refl, sym, ap, _∙_}
-use mathlib.Core.Bool.{Bool, true, false, not}
+use Prim.Native.Nat.{_+_, _-_, _≤_}
+use mathlib.Core.Path.{_≡_, refl, sym, _∙_}
+use mathlib.Core.Bool.{not}
 use native.Mathlib.Nat.{sub-zero}
-use lib.ListN.{length, getD, drop}
+use lib.ListN.{length, drop}
 use lib.Seq.{slice}
 use borrow.Author.Tests.{not-true, not-false}
 use Rattle.words.specs.First.{first}

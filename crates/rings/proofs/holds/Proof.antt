@@ -1,13 +1,9 @@
 use Rattle.rings.proofs.holds.Statement.{statement}
 use Rattle.rings.proofs.holds.Tie as tie
-use Rattle.rings.proofs.holds.Reads as reads
-use Rattle.rings.proofs.holds.Lts as lts
 use native.Mathlib.Omega.{arith}
 use Prim.Native.Nat.{_≤_, _-_}
 use mathlib.Core.Path.{_≡_, refl, sym, _∙_}
-use mathlib.Core.Bool.{Bool, true, false, _||_}
-use lib.Dec.{eqb}
-use lib.ListN.{length, getD}
+use lib.ListN.{getD}
 use lib.Seq.{slice}
 use borrow.Author.Tests.{eq-eqb, ne-eqb}
 use Rattle.words.specs.Lists.{mem}

@@ -1,13 +1,8 @@
 use borrow.Author.Needs.{needs}
 use Rattle.rings.proofs.is_after.Statement.{statement}
 use Rattle.rings.proofs.is_after.Tie as tie
-use Rattle.rings.proofs.is_after.Reads as reads
-use Rattle.rings.proofs.is_after.Lts as lts
-use Rattle.rings.proofs.is_next.Reads as is-next-reads
-use Rattle.words.proofs.number.Reads as number-reads
 use native.Mathlib.Omega.{arith}
 use Prim.Native.Nat.{_+_}
-use mathlib.Core.Path.{_≡_, refl, sym, ap, _∙_}
 use Rattle.rings.proofs.Held.{follows-none, follows-part}
 
 number-requires : tie.Need-number-requires

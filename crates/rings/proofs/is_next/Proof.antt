@@ -1,14 +1,10 @@
 use Rattle.rings.proofs.is_next.Statement.{statement}
 use Rattle.rings.proofs.is_next.Tie as tie
-use Rattle.rings.proofs.is_next.Reads as reads
-use Rattle.rings.proofs.is_next.Lts as lts
-use Rattle.rings.proofs.linked.Reads as linked-reads
 use native.Mathlib.Omega.{arith}
 use Prim.Native.Nat.{_≤_, _-_}
 use mathlib.Core.Path.{_≡_, refl, sym, _∙_}
-use mathlib.Core.Bool.{Bool, true, false, _||_}
-use lib.ListN.{length, getD, drop}
-use lib.Seq.{slice, length-slice}
+use lib.ListN.{drop}
+use lib.Seq.{slice}
 use Rattle.rings.specs.Rings.{around, next}
 use Rattle.rings.proofs.Turns.{around-start, next-turn, next-done}
 use borrow.Author.Needs.{needs}

@@ -1,15 +1,9 @@
 use borrow.Author.Needs.{needs}
 use Rattle.rings.proofs.is_outer.Statement.{statement}
 use Rattle.rings.proofs.is_outer.Tie as tie
-use Rattle.rings.proofs.is_outer.Reads as reads
-use Rattle.rings.proofs.is_outer.Lts as lts
-use Rattle.rings.proofs.holds.Reads as holds-reads
-use Rattle.rings.proofs.is_after.Reads as is-after-reads
-use Rattle.words.proofs.number.Reads as number-reads
 use native.Mathlib.Omega.{arith}
 use borrow.Author.Tests.{not-true, not-false}
 use Prim.Native.Nat.{_+_}
-use mathlib.Core.Path.{_≡_, refl, sym, ap, _∙_}
 use Rattle.rings.proofs.Held.{outer-none, outer-apart, outer-then}
 
 number-requires : tie.Need-number-requires

@@ -1,14 +1,7 @@
 use borrow.Author.Needs.{needs}
 use Rattle.rings.proofs.linked.Statement.{statement}
 use Rattle.rings.proofs.linked.Tie as tie
-use Rattle.rings.proofs.linked.Reads as reads
-use Rattle.rings.proofs.linked.Lts as lts
-use Rattle.rings.proofs.after.Reads as after-reads
 use native.Mathlib.Omega.{arith}
-use mathlib.Core.Path.{refl, sym, _∙_}
-use mathlib.Core.Bool.{Bool, true, false, _&&_}
-use lib.Dec.{eqb}
-use borrow.Author.Tests.{eq-eqb, ne-eqb}
 use Rattle.rings.proofs.Turns.{here-not, here-is}
 
 mul-if1 : tie.Need-mul-if1

@@ -1,7 +1,5 @@
 use Rattle.rings.proofs.one_if_same.Statement.{statement}
 use Rattle.rings.proofs.one_if_same.Tie as tie
-use Rattle.rings.proofs.one_if_same.Reads as reads
-use Rattle.rings.proofs.one_if_same.Lts as lts
 use mathlib.Core.Path.{refl}
 use borrow.Author.Tests.{eq-eqb, ne-eqb}
 use borrow.Author.Needs.{needs}

@@ -1,18 +1,11 @@
 use borrow.Author.Needs.{needs}
 use Rattle.rings.proofs.read_lists.Statement.{statement}
 use Rattle.rings.proofs.read_lists.Tie as tie
-use Rattle.rings.proofs.read_lists.Reads as reads
-use Rattle.rings.proofs.read_lists.Lts as lts
-use Rattle.block.proofs.Block.entries.Reads as entries-reads
-use Rattle.block.proofs.Block.lists_at.Reads as lists-at-reads
-use Rattle.block.proofs.starts.Reads as starts-reads
-use Rattle.words.proofs.unpack.Reads as unpack-reads
 use native.Mathlib.Omega.{arith}
-use mathlib.Core.Path.{_≡_, refl, sym, ap, _∙_}
+use mathlib.Core.Path.{_≡_}
 use Prim.Native.Nat.{_<_}
 use lib.ListN.{length}
 use Rattle.block.specs.Layout.{entries}
-use Rattle.words.proofs.Numbers.{words-length}
 use Rattle.rings.proofs.Read.{read-lists, read-cuts, degrees-count}
 
 starts-requires : tie.Need-starts-requires

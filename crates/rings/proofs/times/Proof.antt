@@ -1,13 +1,9 @@
 use Rattle.rings.proofs.times.Statement.{statement}
 use Rattle.rings.proofs.times.Tie as tie
-use Rattle.rings.proofs.times.Reads as reads
-use Rattle.rings.proofs.times.Lts as lts
-use Rattle.rings.proofs.one_if_same.Reads as one-if-same-reads
 use native.Mathlib.Omega.{arith}
 use Prim.Native.Nat.{_≤_, _+_, _-_}
-use mathlib.Core.Path.{_≡_, refl, sym, _∙_}
+use mathlib.Core.Path.{_≡_}
 use lib.Dec.{eqb}
-use lib.ListN.{length, getD}
 use lib.Seq.{slice}
 use Rattle.words.specs.Lists.{count}
 use Rattle.rings.proofs.Turns.{count-step, count-end}

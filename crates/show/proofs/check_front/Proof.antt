@@ -1,9 +1,6 @@
 use borrow.Author.Needs.{needs}
 use Rattle.show.proofs.check_front.Statement.{statement}
 use Rattle.show.proofs.check_front.Tie as tie
-use Rattle.show.proofs.check_front.Reads as reads
-use Rattle.show.proofs.check_front.Lts as lts
-use Rattle.show.proofs.check.Reads as check-reads
 use native.Mathlib.Omega.{arith}
 use mathlib.Core.Path.{sym}
 use lib.Seq.{length-take-le}

@@ -1,9 +1,5 @@
 use Rattle.show.proofs.entries_of.Statement.{statement}
 use Rattle.show.proofs.entries_of.Tie as tie
-use Rattle.show.proofs.entries_of.Reads as reads
-use Rattle.show.proofs.entries_of.Lts as lts
-use Rattle.show.proofs.number.Reads as number-reads
-use Rattle.show.proofs.text.Reads as text-reads
 use Prim.Native.Nat.{_≤_, _-_}
 use lib.ListN.{length}
 use borrow.Author.Needs.{needs}

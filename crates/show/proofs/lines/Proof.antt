@@ -1,8 +1,5 @@
 use Rattle.show.proofs.lines.Statement.{statement}
 use Rattle.show.proofs.lines.Tie as tie
-use Rattle.show.proofs.lines.Reads as reads
-use Rattle.show.proofs.lines.Lts as lts
-use Rattle.show.proofs.line.Reads as line-reads
 use Prim.Native.Nat.{_≤_, _-_}
 use borrow.Author.Needs.{needs}
 

@@ -1,8 +1,5 @@
 use Rattle.stage.proofs.parse.Statement.{statement}
 use Rattle.stage.proofs.parse.Tie as tie
-use Rattle.stage.proofs.parse.Reads as reads
-use Rattle.stage.proofs.parse.Lts as lts
-use Rattle.stage.proofs.more.Reads as more-reads
 use Prim.Native.Nat.{_≤_, _-_}
 use lib.ListN.{length}
 use borrow.Author.Needs.{needs}

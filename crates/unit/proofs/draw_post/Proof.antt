@@ -1,12 +1,7 @@
 use borrow.Author.Needs.{needs}
 use Rattle.unit.proofs.draw_post.Statement.{statement}
 use Rattle.unit.proofs.draw_post.Tie as tie
-use Rattle.unit.proofs.draw_post.Reads as reads
-use Rattle.unit.proofs.draw_post.Lts as lts
-use Rattle.engine.proofs.post_at.Reads as post-at-reads
-use Rattle.unit.proofs.no_names.Reads as no-names-reads
 use native.Mathlib.Omega.{arith}
-use Rattle.engine.specs.Shows.{Room}
 
 no-names-requires : tie.Need-no-names-requires
 no-names-requires c κs = search needs

@@ -1,12 +1,7 @@
 use borrow.Author.Needs.{needs}
 use Rattle.unit.proofs.draw_sheet.Statement.{statement}
 use Rattle.unit.proofs.draw_sheet.Tie as tie
-use Rattle.unit.proofs.draw_sheet.Reads as reads
-use Rattle.unit.proofs.draw_sheet.Lts as lts
-use Rattle.engine.proofs.sheet_at.Reads as sheet-at-reads
-use Rattle.unit.proofs.no_names.Reads as no-names-reads
 use native.Mathlib.Omega.{arith}
-use Rattle.engine.specs.Shows.{Room}
 
 no-names-requires : tie.Need-no-names-requires
 no-names-requires c κs = search needs

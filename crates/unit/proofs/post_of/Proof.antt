@@ -1,25 +1,17 @@
 use borrow.Author.Needs.{needs}
 use Rattle.unit.proofs.post_of.Statement.{statement}
 use Rattle.unit.proofs.post_of.Tie as tie
-use Rattle.unit.proofs.post_of.Reads as reads
-use Rattle.unit.proofs.post_of.Lts as lts
-use Rattle.block.proofs.Block.entries.Reads as entries-reads
-use Rattle.unit.proofs.draw_post.Reads as draw-post-reads
 use native.Mathlib.Omega.{arith}
-use Prim.Native.Nat.{ℕ, _+_, _*_, _≤_, _<_}
-use mathlib.Core.Path.{_≡_, refl, sym, ap, _∙_, subst, subst⁻¹}
-use mathlib.Core.List.{List, _++_}
-use lib.ListN.{length, take, drop}
+use Prim.Native.Nat.{ℕ, _+_}
+use mathlib.Core.Path.{_≡_, sym, ap, _∙_, subst, subst⁻¹}
+use lib.ListN.{take}
 use lib.Seq.{length-take-le}
-use Rattle.block.specs.Layout.{limit, entries}
 use Rattle.rings.specs.Held.{held}
 use Rattle.engine.specs.Found.{Accepted}
 use Rattle.placing.specs.Stages.{Stage, stage}
-use Rattle.placing.specs.Records.{recordOf, entriesOf}
-use Rattle.lamp.specs.Given.{accepted, checkReply}
+use Rattle.placing.specs.Records.{recordOf}
+use Rattle.lamp.specs.Given.{accepted}
 use Rattle.unit.specs.Replies.{stageAt}
-use Rattle.lamp.specs.Refusals.{numberOf, placeOf, replyOf}
-use Rattle.lamp.specs.Held.{Ready}
 use Rattle.unit.proofs.Calls.{post-low, post-high, post-unnamed, post-fine, length-is, to-engine, stage-is}
 
 returns : tie.Need-returns

@@ -1,27 +1,10 @@
 use borrow.Author.Needs.{needs}
 use Rattle.unit.proofs.sheet.Statement.{statement}
 use Rattle.unit.proofs.sheet.Tie as tie
-use Rattle.unit.proofs.sheet.Reads as reads
-use Rattle.unit.proofs.sheet.Lts as lts
-use Rattle.lamp.proofs.check_into.Reads as check-into-reads
-use Rattle.unit.proofs.no_entries.Reads as no-entries-reads
-use Rattle.unit.proofs.no_names.Reads as no-names-reads
-use Rattle.unit.proofs.no_places.Reads as no-places-reads
-use Rattle.unit.proofs.sheet_of.Reads as sheet-of-reads
-use Rattle.words.proofs.number.Reads as number-reads
 use native.Mathlib.Omega.{arith}
-use Prim.Native.Nat.{ℕ, _+_, _*_, _≤_, _<_}
-use mathlib.Core.Path.{_≡_, refl, sym, ap, _∙_, subst, subst⁻¹}
-use mathlib.Core.List.{List, _++_}
-use lib.ListN.{length, take, drop}
-use lib.Seq.{length-take-le}
-use Rattle.block.specs.Layout.{limit, entries}
-use Rattle.rings.specs.Held.{held}
-use Rattle.engine.specs.Found.{Accepted}
-use Rattle.placing.specs.Stages.{Stage, stage}
-use Rattle.placing.specs.Records.{recordOf, entriesOf}
-use Rattle.lamp.specs.Given.{accepted, checkReply}
-use Rattle.unit.specs.Replies.{stageAt}
+use Prim.Native.Nat.{ℕ}
+use mathlib.Core.Path.{sym, ap, _∙_, subst, subst⁻¹}
+use Rattle.lamp.specs.Given.{accepted}
 use Rattle.lamp.specs.Refusals.{numberOf, placeOf, replyOf}
 use Rattle.lamp.specs.Held.{Ready}
 use Rattle.unit.proofs.Calls.{sheet-refused, buffer-kept}

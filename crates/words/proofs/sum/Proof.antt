@@ -1,14 +1,10 @@
 use Rattle.words.proofs.sum.Statement.{statement}
 use Rattle.words.proofs.sum.Tie as tie
-use Rattle.words.proofs.sum.Reads as reads
-use Rattle.words.proofs.sum.Lts as lts
-use Rattle.std.proofs.num.wrapping_add_u16.Reads as wrapping-add-u16-reads
-use Rattle.words.proofs.wide.Reads as wide-reads
 use native.Mathlib.Omega.{arith}
-use Prim.Native.Nat.{_≤_, _+_, _%_, _-_, _<_}
-use mathlib.Core.Path.{_≡_, ap}
-use lib.ListN.{length, take}
-use Rattle.words.specs.Numbers.{sumOf, wrapped}
+use Prim.Native.Nat.{_≤_, _%_, _-_}
+use mathlib.Core.Path.{_≡_}
+use lib.ListN.{take}
+use Rattle.words.specs.Numbers.{sumOf}
 use Rattle.words.proofs.Numbers.{sum-step, sum-none}
 use borrow.Author.Needs.{needs}
 

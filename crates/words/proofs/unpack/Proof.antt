@@ -1,14 +1,11 @@
 use Rattle.words.proofs.unpack.Statement.{statement}
 use Rattle.words.proofs.unpack.Tie as tie
-use Rattle.words.proofs.unpack.Reads as reads
-use Rattle.words.proofs.unpack.Lts as lts
-use Rattle.words.proofs.word.Reads as word-reads
 use native.Mathlib.Omega.{arith}
-use Prim.Native.Nat.{_≤_, _+_, _*_, _-_, _<_}
+use Prim.Native.Nat.{_≤_, _-_}
 use mathlib.Core.Path.{_≡_, sym}
 use native.Mathlib.Numerals.{add-one}
 use lib.Seq.{take-suc-set}
-use lib.ListN.{length, take, set, length-set}
+use lib.ListN.{length, take}
 use Rattle.words.specs.Numbers.{wordsAt}
 use Rattle.words.proofs.Numbers.{words-step, words-none}
 use borrow.Author.Needs.{needs}
