@@ -5,10 +5,10 @@ ghost use Rattle.lamp.specs.Given.{accepted, refused, checkReply};
 ghost use Rattle.unit.specs.Replies.{sheetReply, bufferAfter, postReply};
 ghost use Rattle.lamp.specs.Refusals.{numberOf, placeOf, replyOf};
 ghost use Rattle.capi.specs.Codes.{codeOf, standingOf, firstOf, secondOf, postOf};
-use placing::Record;
-use placing::Standing;
 use lamp::Answer;
 use lamp::Refusal;
+use placing::Record;
+use placing::Standing;
 use unit::Posted;
 
 // A post's reply: acceptance is 0, and the record's numbers stand beside it; a refusal has zeros there.

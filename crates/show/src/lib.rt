@@ -1,11 +1,11 @@
 // Sheets, replies and records as text on standard output. What is written no contract can say; it is compared with what it must be.
 ghost use mathlib.Core.Path.{_≡_};
 ghost use lib.ListN.{length};
+use lamp::Answer;
+use lamp::Refusal;
 use libc::STDOUT_FILENO;
 use placing::Record;
 use placing::Standing;
-use lamp::Answer;
-use lamp::Refusal;
 use unit::Posted;
 
 fn wide(x: u16) -> u64 {
