@@ -96,6 +96,17 @@ impl Draft<'_> {
         (one, other)
     }
 
+    /// A number in one position of the order; as one post's degree.
+    fn put_one_entry(&mut self, number: u16, rng: &mut Rng) {
+        let position = rng.below(self.n());
+        self.put(self.order_at(position), number)
+    }
+
+    fn put_one_degree(&mut self, number: u16, rng: &mut Rng) {
+        let name = rng.below(self.n());
+        self.put(self.degree_at(name), number)
+    }
+
     fn change_degree(&mut self, name: usize, by: i32) {
         let degree = i32::from(self.get(self.degree_at(name)));
         self.put(self.degree_at(name), (degree + by).max(0) as u16);
@@ -156,14 +167,8 @@ pub const KINDS: &[Damage] = damages![
         let (i, j) = draft.two_posts(rng);
         draft.put(draft.order_at(i), draft.get(draft.order_at(j)))
     },
-    "an order entry of n": |draft, rng| {
-        let i = rng.below(draft.n());
-        draft.put(draft.order_at(i), draft.n() as u16)
-    },
-    "an order entry of 65535": |draft, rng| {
-        let i = rng.below(draft.n());
-        draft.put(draft.order_at(i), 65535)
-    },
+    "an order entry of n": |draft, rng| draft.put_one_entry(draft.n() as u16, rng),
+    "an order entry of 65535": |draft, rng| draft.put_one_entry(65535, rng),
     "the order turned": |draft, rng| {
         let mut order = draft.board.order.clone();
         order.rotate_left(rng.between(1, draft.n() - 1));
@@ -202,22 +207,10 @@ pub const KINDS: &[Damage] = damages![
         let name = rng.below(draft.n());
         draft.change_degree(name, -1)
     },
-    "a degree of 0": |draft, rng| {
-        let name = rng.below(draft.n());
-        draft.put(draft.degree_at(name), 0)
-    },
-    "a degree of 1": |draft, rng| {
-        let name = rng.below(draft.n());
-        draft.put(draft.degree_at(name), 1)
-    },
-    "a degree of n": |draft, rng| {
-        let name = rng.below(draft.n());
-        draft.put(draft.degree_at(name), draft.n() as u16)
-    },
-    "a degree of 65535": |draft, rng| {
-        let name = rng.below(draft.n());
-        draft.put(draft.degree_at(name), 65535)
-    },
+    "a degree of 0": |draft, rng| draft.put_one_degree(0, rng),
+    "a degree of 1": |draft, rng| draft.put_one_degree(1, rng),
+    "a degree of n": |draft, rng| draft.put_one_degree(draft.n() as u16, rng),
+    "a degree of 65535": |draft, rng| draft.put_one_degree(65535, rng),
     "two degrees exchanged": |draft, rng| {
         let (i, j) = draft.two_posts(rng);
         draft.exchange(draft.degree_at(i), draft.degree_at(j))
