@@ -32,7 +32,7 @@ mul-if3 c = omega (arith, c .before .before .before .before .before .before .bef
 returns-3 : tie.Need-returns-3
 returns-3 c =
     let entry = c .before .before .before .before .before .before .before .before .before in
-    let e = sheet-room (entry .args .s .now) (entry .args .k) (entry .args .buffer .now) (entry .args .n) (entry .pre .0) (entry .pre .1 .headed .is) (c .before .before .if1 .left) (c .before .if2 .left) (c .if3 .taken) in
+    let e = sheet-room (entry .args .s .now) (entry .args .k) (entry .args .buffer .now) (entry .args .n) (entry .pre .0) (entry .pre .1 .headed .is) (c .before .before .if1 .left) (c .before .if2 .left) (omega (arith, c .if3 .taken)) in
     (sym e, buffer-kept (entry .args .s .now) (entry .args .k) (entry .args .buffer .now) 16 0 e)
 
 entries-requires : tie.Need-entries-requires
