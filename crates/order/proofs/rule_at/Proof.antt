@@ -77,7 +77,7 @@ returns-2 c =
     let number2 = c .before .before .before .before .before .before .number2 in
     let number3 = c .before .before .before .before .number3 in
     let count-before = c .before .before .before .count-before in
-    rw (← (number .ensures .0)) (rule-broken (entry .args .at .now) (entry .args .ents .now) (number .result) (number2 .result) (number3 .result) (length (entry .args .vs .now)) (omega (arith, number .ensures .0, entry .pre .7)) (entry .pre .1) (number2 .ensures .0) (number3 .ensures .0) (earlier (entry .args .vs .now) (entry .args .k)) (later (entry .args .vs .now) (entry .args .k)) (entry .args .k) (length (entry .args .vs .now)) (count-before .result) (count-before .ensures) (c .before .before .if1 .left) (c .before .count-starts .result) (c .before .count-starts .ensures) (c .if2 .taken))
+    rw (← (number .ensures .0)) (rule-broken (entry .args .at .now) (entry .args .ents .now) (number .result) (number2 .result) (number3 .result) (length (entry .args .vs .now)) (omega (arith, number .ensures .0, entry .pre .7)) (entry .pre .1) (number2 .ensures .0) (number3 .ensures .0) (earlier (entry .args .vs .now) (entry .args .k)) (later (entry .args .vs .now) (entry .args .k)) (entry .args .k) (length (entry .args .vs .now)) (count-before .result) (count-before .ensures) (c .before .before .if1 .left) (c .before .count-starts .result) (c .before .count-starts .ensures) (omega (arith, c .if2 .taken)))
 
 returns-3 : tie.Need-returns-3
 returns-3 c =
