@@ -537,6 +537,12 @@ mod tests {
                 let block = random(kind, n, &mut rng).block();
                 assert_eq!(paper::check(&block), Ok(n as u16), "{kind:?} {n}");
                 assert_eq!(linear::check(&block), Ok(n as u16), "{kind:?} {n}");
+                for stage in [3, n / 2 + 1, n] {
+                    let (mut plain, mut literal) = (vec![7; 2 * n], vec![7; 2 * n]);
+                    let reply = linear::sheet(&block, stage, &mut plain);
+                    assert_eq!(reply, paper::sheet(&block, stage, &mut literal));
+                    assert_eq!(plain, literal, "{kind:?} {n} at stage {stage}");
+                }
             }
         }
         for habit in HABITS {
@@ -553,17 +559,23 @@ mod tests {
         flip(&mut after, 600, &mut rng);
         assert_ne!(before, after);
         assert_eq!(after.iter().map(Vec::len).sum::<usize>(), 6 * 60 - 12);
+        assert_triangles(&after);
+    }
+
+    /// If w follows v around u, then u follows w around v.
+    fn assert_triangles(rings: &[Vec<u16>]) {
+        for (u, ring) in rings.iter().enumerate() {
+            for (i, &v) in ring.iter().enumerate() {
+                let w = ring[(i + 1) % ring.len()];
+                assert_eq!(around(&rings[v as usize], w).0, u as u16);
+            }
+        }
     }
 
     #[test]
     fn tori_have_triangles_everywhere() {
         for rings in [seven_post_torus(), grid_torus(3, 3), grid_torus(4, 5)] {
-            for (u, ring) in rings.iter().enumerate() {
-                for (i, &v) in ring.iter().enumerate() {
-                    let w = ring[(i + 1) % ring.len()];
-                    assert_eq!(around(&rings[v as usize], w).0, u as u16);
-                }
-            }
+            assert_triangles(&rings);
         }
     }
 }

@@ -48,7 +48,30 @@ fn main() {
     run.part("boards in pieces", boards_in_pieces);
     run.part("bytes by chance", chance_bytes);
     run.part("long blocks and long buffers", long_slices);
+    run.part("in threads with a small stack", small_stacks);
     run.end();
+}
+
+/// The stack that a thread needs for the longest block, the thread's own
+/// start included. A thread that runs out of it ends the whole run.
+const CHECK_STACK: usize = 28 * 1024;
+const SHEET_STACK: usize = 40 * 1024;
+
+fn small_stacks(run: &mut Run) {
+    let n = 1000;
+    let block = random(Kind::Flipped, n, &mut run.rng).block();
+    let within = |stack: usize, call: fn(&[u8], &mut [u16]) -> u32| {
+        let (block, mut buffer) = (block.clone(), vec![0; 2 * n]);
+        let thread = std::thread::Builder::new().stack_size(stack);
+        let called = thread.spawn(move || call(&block, &mut buffer)).unwrap();
+        called.join().unwrap()
+    };
+    assert_eq!(within(CHECK_STACK, |block, _| ffi::check(block)), n as u32);
+    let sheet = within(SHEET_STACK, |block, buffer| ffi::sheet(block, 1000, buffer));
+    assert_eq!(sheet, 2 * n as u32);
+    let post = within(SHEET_STACK, |block, _| ffi::post(block, 1000, 999).reply);
+    assert_eq!(post, 0);
+    run.tester.calls += 3;
 }
 
 struct Run {

@@ -1,16 +1,12 @@
--- The sheet's entries, two more at each turn; and a post's record by what the code compared.
+-- The sheet's entries, two more at each turn.
 use Prim.Native.Nat.{ℕ, suc, _+_, _*_, _-_, _≤_, _<_}
 use mathlib.Core.Path.{_≡_, refl, ap, sym, _∙_}
-use mathlib.Core.Bool.{Bool, true, false, not}
 use mathlib.Core.List.{List, [], _∷_, _++_, append-assoc}
 use native.Mathlib.Omega.{arith}
 use native.Mathlib.Numerals.{add-one}
 use lib.ListN.{length, getD, set, take, drop, length-set, length-append}
 use lib.Seq.{take-suc, drop-cons, set-at, length-take-le}
-use borrow.Author.Tests.{eq-eqb, ne-eqb, not-true, not-false}
-use Rattle.placing.specs.declared.Standing.the-variants.{Waiting, OnContour, Covered}
-use Rattle.arrays.specs.Opens.{before}
-use Rattle.arrays.specs.Sheet.{pairs, recordBy}
+use Rattle.arrays.specs.Sheet.{pairs}
 
 module _ (xs ys : List ℕ) where
   pairs-length : (l : List ℕ) → length (pairs xs ys l) ≡ 2 * length l
@@ -62,15 +58,3 @@ module _ (vs : List ℕ) (k : ℕ) (xs ys buffer₀ buffer : List ℕ) (i : ℕ)
         is = rw (t, m, R .is) (two-more (pairs xs ys (take i vs)) buffer₀ (2 * i) (getD xs u 0) (getD ys u 0) n (omega arith));
         same = simp length-set (R .same);
       }
-
--- ---- a post's record
-module _ (rank : List ℕ) (k : ℕ) (xs ys cover left right : List ℕ) (u : ℕ) (r : Bool) (er : r ≡ before rank (k + 1) u) where
-  pub record-waiting : not r ≡ true → record { x = 0; y = 0; standing = Waiting } ≡ recordBy rank k xs ys cover left right u
-  record-waiting t = rw (← er, not-true r t) refl
-
-  module _ (t : not r ≡ false) (i : ℕ) (ei : i ≡ u) where
-    pub record-on : getD cover i 0 ≡ u → record { x = getD xs i 0; y = getD ys i 0; standing = OnContour (getD left i 0) (getD right i 0) } ≡ recordBy rank k xs ys cover left right u
-    record-on e = let f : getD cover u 0 ≡ u = rw ei at e in rw (← er, not-false r t, ei, eq-eqb (getD cover u 0) u f) refl
-
-    pub record-covered : (getD cover i 0 ≡ u → ⊥) → record { x = getD xs i 0; y = getD ys i 0; standing = Covered (getD cover i 0) } ≡ recordBy rank k xs ys cover left right u
-    record-covered n = let f : getD cover u 0 ≡ u → ⊥ = rw ei at n in rw (← er, not-false r t, ei, ne-eqb (getD cover u 0) u f) refl

@@ -1,30 +1,9 @@
--- What is written of a stage, from the columns and heights by name: the sheet's entries, and a post's record.
-use Prim.Native.Nat.{ℕ, _+_}
-use mathlib.Core.Bool.{Bool, true, false}
+-- What is written of a stage, from the columns and heights by name: the sheet's entries.
+use Prim.Native.Nat.{ℕ}
 use mathlib.Core.List.{List, [], _∷_}
-use lib.Dec.{eqb}
 use lib.ListN.{getD}
-use Rattle.placing.specs.declared.Standing.{Standing}
-use Rattle.placing.specs.declared.Standing.the-variants.{Waiting, OnContour, Covered}
-use Rattle.placing.specs.declared.Record.{Record}
-use Rattle.arrays.specs.Opens.{before}
 
 -- x then y of each post of a list
 unfoldable pub pairs : List ℕ → List ℕ → List ℕ → List ℕ
 pairs xs ys [] = []
 pairs xs ys (u ∷ l) = getD xs u 0 ∷ getD ys u 0 ∷ pairs xs ys l
-
-abbrev pub pickStanding : Bool → Standing → Standing → Standing
-pickStanding true a b = a
-pickStanding false a b = b
-
-abbrev pub pickRecord : Bool → Record → Record → Record
-pickRecord true a b = a
-pickRecord false a b = b
-
--- a waiting post has x = y = 0; one that nobody covers stands on the contour
-abbrev pub recordBy : (rank : List ℕ) → ℕ → (xs ys cover left right : List ℕ) → ℕ → Record
-recordBy rank k xs ys cover left right u =
-    pickRecord (before rank (k + 1) u)
-    (record { x = getD xs u 0; y = getD ys u 0; standing = pickStanding (eqb (getD cover u 0) u) (OnContour (getD left u 0) (getD right u 0)) (Covered (getD cover u 0)) })
-    (record { x = 0; y = 0; standing = Waiting })

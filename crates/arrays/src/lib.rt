@@ -1,6 +1,4 @@
 // The engine's arrays, by name: what its loops do to them. Nothing here knows what a stage is.
-use placing::Record;
-use placing::Standing;
 ghost use mathlib.Core.Path.{_≡_};
 ghost use mathlib.Core.List.{_++_};
 ghost use Prim.Native.Nat.{ℕ, _+_, _*_, _-_, _/_, _≤_, _<_};
@@ -10,7 +8,7 @@ ghost use lib.Seq.{slice};
 ghost use mathlib.Core.Bool.{not, _&&_};
 ghost use Rattle.arrays.specs.Opens.{before, opens};
 ghost use Rattle.arrays.specs.Columns.{until, laid, columnOf, settled, ColumnFits, Settles, Rooms, Line};
-ghost use Rattle.arrays.specs.Sheet.{pairs, recordBy};
+ghost use Rattle.arrays.specs.Sheet.{pairs};
 ghost use Rattle.arrays.specs.Arrays.{bias, path, walk, along, Below, covered, hung, Fits, dropOf, riseOf, Ready, Over};
 
 // The new post's offset from w_p, with w_q `far` from it: a signed difference of heights, and half of an even sum.
@@ -205,42 +203,5 @@ pub fn write_sheet(vs: &[u16], k: usize, xs: &[u16], ys: &[u16], buffer: &mut [u
         buffer[2 * i] = xs[u];
         buffer[2 * i + 1] = ys[u];
         i += 1;
-    }
-}
-
-// The record of post u at stage k.
-pub fn record_at(
-    rank: &[u16],
-    k: usize,
-    xs: &[u16],
-    ys: &[u16],
-    cover: &[u16],
-    left: &[u16],
-    right: &[u16],
-    u: u16,
-) -> Record
-    requires { ⌜ (k ≤ limit) × (u < length (now rank)) × (u < length (now xs)) × (u < length (now ys)) × (u < length (now cover)) × (u < length (now left)) × (u < length (now right)) ⌝ }
-    ensures { λ r. ⌜ r ≡ recordBy (now (rank .entry)) k (now (xs .entry)) (now (ys .entry)) (now (cover .entry)) (now (left .entry)) (now (right .entry)) u ⌝ }
-{
-    if !order::is_before(rank, u, k + 1) {
-        return Record {
-            x: 0,
-            y: 0,
-            standing: Standing::Waiting,
-        };
-    }
-    let i = words::number(u);
-    let c = cover[i];
-    if c == u {
-        return Record {
-            x: xs[i],
-            y: ys[i],
-            standing: Standing::OnContour(left[i], right[i]),
-        };
-    }
-    Record {
-        x: xs[i],
-        y: ys[i],
-        standing: Standing::Covered(c),
     }
 }

@@ -1,4 +1,4 @@
-// The block: its layout from n, the tests of its header, its order and its degrees (steps 1 to 8).
+// The block: its layout from n, and what steps 1 to 8 look at in its header, its order and its degrees.
 ghost use mathlib.Core.Path.{_≡_};
 ghost use mathlib.Core.Bool.{false};
 ghost use Prim.Native.Nat.{ℕ, _+_, _*_, _-_, _≤_, _<_};

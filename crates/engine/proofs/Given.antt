@@ -26,7 +26,8 @@ use Rattle.placing.proofs.Steps.{contours, stage-placed}
 use Rattle.arrays.specs.Opens.{before}
 use Rattle.engine.specs.Found.{Accepted}
 use Rattle.engine.specs.Shows.{Shows, Drawn}
-use Rattle.arrays.specs.Sheet.{pairs, pickStanding, recordBy}
+use Rattle.arrays.specs.Sheet.{pairs}
+use Rattle.engine.specs.Recorded.{pickStanding, recordBy}
 use Rattle.engine.proofs.Found.{placed-by}
 use Rattle.engine.proofs.Read.{later}
 

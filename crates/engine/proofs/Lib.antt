@@ -7,3 +7,4 @@ pub mod Next
 pub mod Third
 pub mod Read
 pub mod Given
+pub mod Recording

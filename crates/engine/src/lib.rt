@@ -1,14 +1,17 @@
 // Reaching a stage in linear time, once a check has accepted the block: differences are kept, and no post is moved.
 use placing::Record;
+use placing::Standing;
 ghost use mathlib.Core.Path.{_≡_};
 ghost use mathlib.Core.List.{_++_};
-ghost use Prim.Native.Nat.{_+_, _*_, _-_, _≤_, _<_};
+ghost use Prim.Native.Nat.{_+_, _*_, _≤_, _<_};
 ghost use lib.ListN.{length, take, drop};
+ghost use Rattle.block.specs.Layout.{limit};
 ghost use Rattle.engine.specs.Found.{Accepted};
 ghost use Rattle.rings.specs.Held.{held};
 ghost use Rattle.placing.specs.Stages.{third, stage};
 ghost use Rattle.placing.specs.Records.{recordOf, entriesOf};
 ghost use Rattle.arrays.specs.Columns.{Readable, columnsOf};
+ghost use Rattle.engine.specs.Recorded.{recordBy};
 ghost use Rattle.engine.specs.Shows.{Shows, Room, Corners, Holds, Drawn};
 
 // From stage k to stage k + 1 of an accepted block: the post in position k + 1 is placed.
@@ -133,6 +136,43 @@ pub fn sheet_at(
     arrays::write_sheet(vs, k, xs, ys, buffer);
 }
 
+// The record of post u, from the arrays of stage k.
+fn record_at(
+    rank: &[u16],
+    k: usize,
+    xs: &[u16],
+    ys: &[u16],
+    cover: &[u16],
+    left: &[u16],
+    right: &[u16],
+    u: u16,
+) -> Record
+    requires { ⌜ (k ≤ limit) × (u < length (now rank)) × (u < length (now xs)) × (u < length (now ys)) × (u < length (now cover)) × (u < length (now left)) × (u < length (now right)) ⌝ }
+    ensures { λ r. ⌜ r ≡ recordBy (now (rank .entry)) k (now (xs .entry)) (now (ys .entry)) (now (cover .entry)) (now (left .entry)) (now (right .entry)) u ⌝ }
+{
+    if !order::is_before(rank, u, k + 1) {
+        return Record {
+            x: 0,
+            y: 0,
+            standing: Standing::Waiting,
+        };
+    }
+    let i = words::number(u);
+    let c = cover[i];
+    if c == u {
+        return Record {
+            x: xs[i],
+            y: ys[i],
+            standing: Standing::OnContour(left[i], right[i]),
+        };
+    }
+    Record {
+        x: xs[i],
+        y: ys[i],
+        standing: Standing::Covered(c),
+    }
+}
+
 // The record of post u at stage k.
 pub fn post_at(
     at: &[u16],
@@ -152,5 +192,5 @@ pub fn post_at(
     ensures { λ r. ⌜ r ≡ recordOf (stage (held (now (at .entry)) (now (ents .entry))) (take k (now (vs .entry)))) u ⌝ }
 {
     draw(at, ents, vs, rank, k, ys, off, cover, left, right, xs);
-    arrays::record_at(rank, k, xs, ys, cover, left, right, u)
+    record_at(rank, k, xs, ys, cover, left, right, u)
 }

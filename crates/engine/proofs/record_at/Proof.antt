@@ -1,7 +1,7 @@
 use borrow.Author.Needs.{needs}
-use Rattle.arrays.proofs.record_at.Statement.{statement}
-use Rattle.arrays.proofs.record_at.Tie as tie
-use Rattle.arrays.proofs.Writing.{record-waiting, record-on, record-covered}
+use Rattle.engine.proofs.record_at.Statement.{statement}
+use Rattle.engine.proofs.record_at.Tie as tie
+use Rattle.engine.proofs.Recording.{record-waiting, record-on, record-covered}
 
 add-is-before : tie.Need-add-is-before
 add-is-before c = search needs

@@ -1,0 +1,35 @@
+/* include/pgb.h as a C program sees it: board D from standard input, through each of its three functions. */
+#include "pgb.h"
+
+#include <stdio.h>
+
+static int differs(const char *what, unsigned long got, unsigned long wanted)
+{
+    if (got != wanted)
+        printf("header.c: %s is %lu, and not %lu\n", what, got, wanted);
+    return got != wanted;
+}
+
+int main(void)
+{
+    static const uint16_t sheet[] = {0, 0, 6, 0, 3, 1, 3, 2, 3, 3};
+    uint8_t block[100];
+    uint16_t buffer[11] = {0};
+    size_t len = fread(block, 1, sizeof block, stdin);
+    int faults = differs("check", pgb_check(block, len), 5);
+
+    buffer[10] = 4242;
+    faults += differs("sheet", pgb_sheet(block, len, 5, buffer, 11), 10);
+    for (size_t i = 0; i < 10; i++)
+        faults += differs("an entry", buffer[i], sheet[i]);
+    faults += differs("the entry beyond", buffer[10], 4242);
+    faults += differs("sheet without room", pgb_sheet(block, len, 5, buffer, 9), 16 * 65536UL);
+
+    pgb_post_reply post = pgb_post(block, len, 4, 3);
+    faults += differs("post", post.reply, 0);
+    faults += differs("x", post.x, 2) + differs("y", post.y, 2);
+    faults += differs("standing", post.standing, 1);
+    faults += differs("left", post.first, 0) + differs("right", post.second, 1);
+    faults += differs("check of a cut block", pgb_check(block, 6), 1 * 65536UL);
+    return faults != 0;
+}
