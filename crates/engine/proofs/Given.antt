@@ -27,7 +27,7 @@ use Rattle.arrays.specs.Opens.{before}
 use Rattle.engine.specs.Found.{Accepted}
 use Rattle.engine.specs.Shows.{Shows, Drawn}
 use Rattle.arrays.specs.Sheet.{pairs}
-use Rattle.engine.specs.Recorded.{pickStanding, recordBy}
+use Rattle.engine.specs.Recorded.{recordBy}
 use Rattle.engine.proofs.Found.{placed-by}
 use Rattle.engine.proofs.Read.{later}
 
@@ -147,12 +147,12 @@ module _ (at ents vs rank : List ℕ) (A : Accepted at ents vs rank) (k : ℕ) (
       omega (arith, l .1)
 
   stands : (u : ℕ) → In u (stage (held at ents) (take k vs) .placed)
-      → pickStanding (eqb (getD cover u 0) u) (OnContour (getD left u 0) (getD right u 0)) (Covered (getD cover u 0)) ≡ standing (stage (held at ents) (take k vs)) u
+      → cond (eqb (getD cover u 0) u) (OnContour (getD left u 0) (getD right u 0)) (Covered (getD cover u 0)) ≡ standing (stage (held at ents) (take k vs)) u
   unfolding standing
   stands u q = go (in-dec u (stage (held at ents) (take k vs) .contour))
     where
       go : Dec (In u (stage (held at ents) (take k vs) .contour))
-          → pickStanding (eqb (getD cover u 0) u) (OnContour (getD left u 0) (getD right u 0)) (Covered (getD cover u 0))
+          → cond (eqb (getD cover u 0) u) (OnContour (getD left u 0) (getD right u 0)) (Covered (getD cover u 0))
           ≡ cond (mem (stage (held at ents) (take k vs) .contour) u) (OnContour (leftOf (stage (held at ents) (take k vs) .contour) u) (rightOf (stage (held at ents) (take k vs) .contour) u))
           (cond (mem (stage (held at ents) (take k vs) .placed) u) (Covered (stage (held at ents) (take k vs) .cover u)) Waiting)
       go (yes c) = rw (is-true (mem (stage (held at ents) (take k vs) .contour) u) (in-mem (stage (held at ents) (take k vs) .contour) u c), eq-eqb (getD cover u 0) u (S .bare u c), left-at u c, right-at u c) refl

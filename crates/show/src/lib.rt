@@ -1,6 +1,7 @@
 // Sheets, replies and records as text on standard output. What is written no contract can say; it is compared with what it must be.
 ghost use mathlib.Core.Path.{_≡_};
 ghost use lib.ListN.{length};
+ghost use Rattle.unit.specs.Replies.{bufferAfter};
 use lamp::Answer;
 use lamp::Refusal;
 use libc::STDOUT_FILENO;
@@ -123,7 +124,9 @@ fn entries_of(entries: &[u16]) {
 }
 
 // What sheet replies with a buffer of these entries, and what stands in the buffer afterwards.
-pub fn reply_of_sheet(s: &[u8], k: usize, buffer: &mut [u16]) {
+pub fn reply_of_sheet(s: &[u8], k: usize, buffer: &mut [u16])
+    ensures { λ r. ⌜ now (buffer .exit) ≡ bufferAfter (now (s .entry)) k (now (buffer .entry)) ⌝ }
+{
     match unit::sheet(s, k, buffer) {
         Answer::Refused(r) => {
             text(b"refused");

@@ -36,7 +36,7 @@ Accepted {A} r = (a : A) × (r ≡ accepted a)
 abbrev pub Refused : {A : Type 0} → Reply A → Type 0
 Refused r = (number place : ℕ) × (r ≡ refused number place)
 
--- ---- 1. Every input gets a defined reply.
+-- ---- 1. Every input gets a defined reply: the one that the table fixes (lamp/specs/Given.antt: Fixed).
 
 pub record Demand1 (U : Services) : Type 0 where
   -- the unit accepts or gives the refusal and place the paper fixes, in its order
