@@ -6,9 +6,12 @@ use Rattle.placing.specs.declared.Standing.the-variants.{Waiting, OnContour, Co
 use Rattle.lamp.specs.Given.{Reply, accepted, refused}
 use Rattle.capi.specs.declared.PostReply.{PostReply}
 
+abbrev pub refusalCode : ℕ → ℕ → ℕ
+refusalCode number place = number * 65536 + place
+
 abbrev pub codeOf : Reply ℕ → ℕ
 codeOf (accepted v) = v
-codeOf (refused number place) = number * 65536 + place
+codeOf (refused number place) = refusalCode number place
 
 -- standing: 0 waiting, 1 on the contour, 2 covered; first and second: left and right, or the covering post twice
 abbrev pub standingOf : Standing → ℕ
@@ -29,4 +32,4 @@ secondOf (Covered b) = b
 abbrev pub postOf : Reply Record → PostReply
 postOf (accepted r) =
     record { reply = 0; x = r .x; y = r .y; standing = standingOf (r .standing); first = firstOf (r .standing); second = secondOf (r .standing) }
-postOf (refused number place) = record { reply = number * 65536 + place; x = 0; y = 0; standing = 0; first = 0; second = 0 }
+postOf (refused number place) = record { reply = refusalCode number place; x = 0; y = 0; standing = 0; first = 0; second = 0 }

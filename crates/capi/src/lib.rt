@@ -1,10 +1,9 @@
 // The services as C functions, for firmware and for tests: include/pgb.h declares them.
 ghost use mathlib.Core.Path.{_≡_};
-ghost use Prim.Native.Nat.{_+_, _*_};
 ghost use Rattle.lamp.specs.Given.{accepted, refused, checkReply};
 ghost use Rattle.unit.specs.Replies.{sheetReply, bufferAfter, postReply};
 ghost use Rattle.lamp.specs.Refusals.{numberOf, placeOf, replyOf};
-ghost use Rattle.capi.specs.Codes.{codeOf, standingOf, firstOf, secondOf, postOf};
+ghost use Rattle.capi.specs.Codes.{refusalCode, codeOf, standingOf, firstOf, secondOf, postOf};
 use lamp::Answer;
 use lamp::Refusal;
 use placing::Record;
@@ -23,7 +22,7 @@ pub struct PostReply {
 }
 
 fn refusal_code(r: Refusal) -> u32
-    ensures { λ c. ⌜ c ≡ numberOf r * 65536 + placeOf r ⌝ }
+    ensures { λ c. ⌜ c ≡ refusalCode (numberOf r) (placeOf r) ⌝ }
 {
     let n = r.number();
     let p = r.place();

@@ -1,7 +1,8 @@
+// Reads all of standard input as one block and prints the stage that the argument names, or the refusal.
 ghost use mathlib.Core.Path.{_≡_};
 ghost use Prim.Native.Nat.{_≤_, _<_};
 
-// Reads all of standard input as one block and prints the stage that the argument names, or the refusal.
+// What the argument is.
 enum Word {
     Number(usize),
     Other,
