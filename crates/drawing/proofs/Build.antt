@@ -6,7 +6,7 @@ use mathlib.Core.List.{List, [], _∷_, _++_}
 use native.Mathlib.Omega.{arith}
 use Rattle.words.specs.Lists.{In}
 use Rattle.drawing.specs.Meeting.{Places}
-use Rattle.drawing.proofs.Fan.{Turn}
+use Rattle.drawing.specs.Areas.{PositiveArea}
 use Rattle.drawing.proofs.Lists.{Chain, in-append, in-left, in-right}
 
 -- two posts with a wire; then each new post v with its run p, M, q on the contour. The index is the contour
@@ -32,7 +32,7 @@ pub record Before (s : Places) (a b : ℕ) : Type 0 where
 pub record Placing (s : Places) (p : ℕ) (M : List ℕ) (q v : ℕ) : Type 0 where
   pub left : Before s p v
   pub right : Before s v q
-  pub over : Chain (λ a b. Turn s a b v) (p ∷ (M ++ q ∷ []))
+  pub over : Chain (λ a b. PositiveArea s a b v) (p ∷ (M ++ q ∷ []))
 
 abbrev pub Good : Places → {C : List ℕ} → Build C → Type 0
 Good s (base a b) = Before s a b

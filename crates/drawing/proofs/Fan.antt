@@ -4,6 +4,7 @@ use mathlib.Core.Path.{_≡_}
 use native.Mathlib.Nat.{mul-le-mul-left}
 use native.Mathlib.Omega.{arith}
 use Rattle.drawing.specs.Meeting.{Places, Point, At}
+use Rattle.drawing.specs.Areas.{PositiveArea}
 use Rattle.drawing.proofs.Numbers.{times, turned, apart}
 
 -- the point lies on the segment from a to b, given over the sum of its weights
@@ -13,10 +14,6 @@ pub record Along (s : Places) (a b : ℕ) (P : Point) : Type 0 where
   pub sum : i + j ≡ P .d
   pub isX : P .X ≡ i * s .x a + j * s .x b
   pub isY : P .Y ≡ i * s .y a + j * s .y b
-
--- going round a, b, c turns left: twice the triangle's area is positive
-abbrev pub Turn : Places → ℕ → ℕ → ℕ → Type 0
-Turn s a b c = s .x b * s .y a + s .x c * s .y b + s .x a * s .y c < s .x a * s .y b + s .x b * s .y c + s .x c * s .y a
 
 -- the point is on the line from a to b, or right of it; or left of it
 abbrev pub Low : Places → ℕ → ℕ → Point → Type 0
@@ -106,7 +103,7 @@ module _ (s : Places) {a b : ℕ} {P : Point} where
       omega (arith, times (x b) w, times (y b) w, times (x a) z, times (y a) z)
 
 -- ---- the fan
-module _ (s : Places) {a b c : ℕ} {P : Point} (turn : Turn s a b c) where
+module _ (s : Places) {a b c : ℕ} {P : Point} (turn : PositiveArea s a b c) where
   open Places s using (x, y)
   open Point P using (X, Y, d)
 

@@ -7,13 +7,13 @@ use native.Mathlib.Omega.{arith}
 use Rattle.words.specs.Lists.{In}
 use Rattle.drawing.specs.Meeting.{Places}
 use Rattle.drawing.proofs.Numbers.{by-cmp}
-use Rattle.drawing.proofs.Fan.{Turn}
+use Rattle.drawing.specs.Areas.{PositiveArea}
 use Rattle.drawing.proofs.Lists.{Chain}
 use Rattle.drawing.proofs.Keep.{K, Add, was, new, split, cut}
 
 -- v turns left from a and b: it is above them; and it is in another column than b
 pub record Clear (s : Places) (v a b : ℕ) : Type 0 where
-  pub turn : Turn s a b v
+  pub turn : PositiveArea s a b v
   pub off : s .x b ≢ s .x v
 
 -- the old wires and new ones between v and each post of l

@@ -8,7 +8,8 @@ use native.Mathlib.Nat.{mul-le-mul-right}
 use native.Mathlib.Omega.{arith}
 use Rattle.drawing.specs.Meeting.{Point, Places, At}
 use Rattle.drawing.proofs.Numbers.{by-le}
-use Rattle.drawing.proofs.Fan.{Along, Turn, on-under, at-left, at-right, on-left, on-right, left-fan, left-only, right-fan, right-only}
+use Rattle.drawing.specs.Areas.{PositiveArea}
+use Rattle.drawing.proofs.Fan.{Along, on-under, at-left, at-right, on-left, on-right, left-fan, left-only, right-fan, right-only}
 use Rattle.drawing.proofs.Lists.{Chain, chain-map, chain-at, chain-swap}
 use Rattle.drawing.proofs.Roof.{Roof, Rising, roof-swap, roof-in, roof-left, roof-right}
 
@@ -102,7 +103,7 @@ start s a b h = record { wires = record { right = right'; roof = roof'; meet = m
 
 -- a new post v over the neighbours a and b
 module _ (s : Places) (E : ℕ → ℕ → Type 0) (L R : List ℕ) (a b v : ℕ) (k : K s E (L ++ a ∷ b ∷ R)) (av : s .x a < s .x v)
-    (vb : s .x v < s .x b) (turn : Turn s a b v) where
+    (vb : s .x v < s .x b) (turn : PositiveArea s a b v) where
   open Places s using (x, y)
 
   tail : Chain E (a ∷ b ∷ R)
@@ -114,7 +115,7 @@ module _ (s : Places) (E : ℕ → ℕ → Type 0) (L R : List ℕ) (a b v : ℕ
   abbrev pub E₂ : ℕ → ℕ → Type 0
   E₂ = Add E₁ v b
 
-  turn' : Turn s v a b
+  turn' : PositiveArea s v a b
   turn' = omega arith
 
   ab : x a < x b
@@ -157,7 +158,7 @@ module _ (s : Places) (E : ℕ → ℕ → Type 0) (L R : List ℕ) (a b v : ℕ
       }
 
 -- the neighbour b cut off by a wire from a to c
-module _ (s : Places) (E : ℕ → ℕ → Type 0) (L R : List ℕ) (a b c : ℕ) (k : K s E (L ++ a ∷ b ∷ c ∷ R)) (turn : Turn s a b c) where
+module _ (s : Places) (E : ℕ → ℕ → Type 0) (L R : List ℕ) (a b c : ℕ) (k : K s E (L ++ a ∷ b ∷ c ∷ R)) (turn : PositiveArea s a b c) where
   open Places s using (x, y)
 
   tail' : Chain E (a ∷ b ∷ c ∷ R)

@@ -9,7 +9,8 @@ use native.Mathlib.Omega.{arith}
 use Rattle.words.specs.Lists.{In}
 use Rattle.drawing.specs.Meeting.{Point, Places, At, Same, End, NoneMeet}
 use Rattle.drawing.proofs.Numbers.{by-le, by-cmp, times}
-use Rattle.drawing.proofs.Fan.{Along, Turn, at-left, at-right}
+use Rattle.drawing.specs.Areas.{PositiveArea}
+use Rattle.drawing.proofs.Fan.{Along, at-left, at-right}
 use Rattle.drawing.proofs.Lists.{in-run, chain-in}
 use Rattle.drawing.proofs.Points.{both}
 use Rattle.drawing.proofs.Keep.{K, Common, same, shared, Placed, begins, ends, Ground, ground, start, through}
@@ -34,7 +35,7 @@ module _ (s : Places) (N : ℕ) (some : 0 < N) where
       (λ k. let e : x a ≡ x b = omega (arith, h .le) in omega (arith, h .tie k, ap (λ (n : ℕ). N * n) e))
       (λ k. omega (arith, mul-le-mul-left N k))
 
-  turn : (a b c : ℕ) → Turn s a b c → Turn sheared a b c
+  turn : (a b c : ℕ) → PositiveArea s a b c → PositiveArea sheared a b c
   turn a b c h = omega (arith, mul-le-mul-left N h)
 
   on : {a b : ℕ} {P : Point} → Along s a b P → Along sheared a b (moved P)
@@ -49,7 +50,7 @@ module _ (s : Places) (N : ℕ) (some : 0 < N) where
       by-cmp (x a) (x b) (λ h. absurd (omega (arith, mul-le-mul-left N h))) (λ h. omega (arith, ap (λ (n : ℕ). N * n) h))
       (λ h. absurd (omega (arith, mul-le-mul-left N h)))
 
-  clear : (v a b : ℕ) → y b < N → y v < N → Turn s a b v → Clear sheared v a b
+  clear : (v a b : ℕ) → y b < N → y v < N → PositiveArea s a b v → Clear sheared v a b
   clear v a b i j t =
       record {
         turn = turn a b v t;

@@ -11,7 +11,7 @@ use Rattle.words.specs.Positions.{post}
 use Rattle.words.proofs.Lists.{Once}
 use Rattle.rings.specs.Rings.{ring}
 use Rattle.rings.specs.Plane.{Wire as RingWire}
-use Rattle.order.proofs.Sound.{Passes, passes-names, passes-faces}
+use Rattle.order.proofs.Sound.{Passes, boarded-names, boarded-faces}
 use Rattle.placing.specs.Stages.{Stage, place, stage}
 use Rattle.placing.proofs.Steps.{Step, stage-next, stage-placed, step-at, at-each-stage}
 use Rattle.drawing.specs.Meeting.{NoneMeet, OnGrid}
@@ -42,9 +42,9 @@ module _ (G : List (List ℕ)) (vs : List ℕ) (A : Passes G vs) where
   -- the drawing of stage k, its wires those of the rings
   pub tied-at : (k : ℕ) → 3 ≤ k → k ≤ length G → Tied G (stage G (take k vs))
   tied-at k h i =
-      let all : length vs ≡ length G = A .all in
-      let F = passes-faces G vs A in
-      let d = three-differ vs (passes-names G vs A .once) (omega arith) in
+      let all : length vs ≡ length G = A .board .all in
+      let F = boarded-faces G vs (A .board) in
+      let d = three-differ vs (boarded-names G vs (A .board) .once) (omega arith) in
       at-each-stage G vs A (Tied G) (tied-third G F (post vs 1) (post vs 2) (post vs 3) (d .0) (d .1) (d .2))
       (λ t v S T. tied-next G t v S T F) k h (omega arith)
 
@@ -53,7 +53,7 @@ module _ (G : List (List ℕ)) (vs : List ℕ) (A : Passes G vs) where
     t = stage G (take k vs)
 
     all : length vs ≡ length G
-    all = A .all
+    all = A .board .all
 
     -- v1 to vk are placed
     pub placed-at : t .placed ≡ take k vs
@@ -124,7 +124,7 @@ module _ (G : List (List ℕ)) (vs : List ℕ) (A : Passes G vs) where
   module _ (k : ℕ) (h : 3 ≤ k) (i : k < length G) where
     pub one-step-at : Advance G (stage G (take k vs)) (stage G (take (k + 1) vs)) (post vs (k + 1))
     one-step-at =
-        let l : length vs ≡ length G = A .all in
+        let l : length vs ≡ length G = A .board .all in
         let e = stage-next G vs k h (omega arith) in
         let S = step-at G vs A k h i in
         let T = tied-at k h (omega arith) in

@@ -9,16 +9,16 @@ use Rattle.words.specs.Lists.{In}
 use Rattle.words.specs.Positions.{post}
 use Rattle.words.proofs.Lists.{Adj, Once, adj-cases, adj-init, adj-tail, head-one, once-split, once-drop, in-right}
 use Rattle.words.proofs.Positions.{in-take, take-in, post-new}
-use Rattle.rings.specs.Plane.{Follows}
+use Rattle.rings.specs.Plane.{Follows, OuterTriangle}
 use Rattle.rings.proofs.Around.{After, follows-after}
 use Rattle.rings.proofs.Says.{Faces}
 use Rattle.order.proofs.Contour.{Rings, Contour}
 use Rattle.order.proofs.Runs.{rings}
-use Rattle.order.proofs.Sound.{Passes, passes-names, passes-faces, passes-outer}
+use Rattle.order.proofs.Sound.{Passes, boarded-names, boarded-faces, boarded-outer}
 use Rattle.placing.specs.Stages.{Stage, third, place, stage}
 use Rattle.placing.proofs.Steps.{Step, place-placed, at-each-stage}
 use Rattle.drawing.proofs.Lists.{in-append}
-use Rattle.drawing.proofs.Fan.{Turn}
+use Rattle.drawing.specs.Areas.{PositiveArea}
 use Rattle.drawing.proofs.Build.{Build}
 use Rattle.plane.proofs.Drawn.{places}
 use Rattle.plane.proofs.Tri.{Tri, tri-turn}
@@ -26,29 +26,23 @@ use Rattle.plane.proofs.Sheet.{turns}
 use Rattle.plane.proofs.Tied.{Tied, tied-third, third-tri, tied-next, tri-old, tri-new}
 use Rattle.plane.proofs.Every.{three-differ, placed-at}
 
--- the outer triangle, from any of its posts on
-pub data Outer (v1 v2 vn u a b : ℕ) : Type 0 where
-  out-u : u ≡ vn → a ≡ v2 → b ≡ v1 → Outer v1 v2 vn u a b
-  out-a : a ≡ vn → b ≡ v2 → u ≡ v1 → Outer v1 v2 vn u a b
-  out-b : b ≡ vn → u ≡ v2 → a ≡ v1 → Outer v1 v2 vn u a b
-
-turn-outer : {v1 v2 vn u a b : ℕ} → Outer v1 v2 vn u a b → Outer v1 v2 vn a b u
-turn-outer (out-u e f g) = out-b e f g
-turn-outer (out-a e f g) = out-u e f g
-turn-outer (out-b e f g) = out-a e f g
+turn-outer : {v1 v2 vn u a b : ℕ} → OuterTriangle v1 v2 vn u a b → OuterTriangle v1 v2 vn a b u
+turn-outer (inl (e, f, g)) = inr (inl (f, g, e))
+turn-outer (inr (inl (e, f, g))) = inr (inr (f, g, e))
+turn-outer (inr (inr (e, f, g))) = inl (f, g, e)
 
 -- one of the three posts was placed over the two others, or it is the outer one
-data Face {C : List ℕ} (B : Build C) (v1 v2 vn u a b : ℕ) : Type 0 where
-  over-u : Tri B a b u → Face B v1 v2 vn u a b
-  over-a : Tri B b u a → Face B v1 v2 vn u a b
-  over-b : Tri B u a b → Face B v1 v2 vn u a b
-  outer : Outer v1 v2 vn u a b → Face B v1 v2 vn u a b
+data Accounted {C : List ℕ} (B : Build C) (v1 v2 vn u a b : ℕ) : Type 0 where
+  over-u : Tri B a b u → Accounted B v1 v2 vn u a b
+  over-a : Tri B b u a → Accounted B v1 v2 vn u a b
+  over-b : Tri B u a b → Accounted B v1 v2 vn u a b
+  outer : OuterTriangle v1 v2 vn u a b → Accounted B v1 v2 vn u a b
 
-turn-face : {C : List ℕ} {B : Build C} {v1 v2 vn u a b : ℕ} → Face B v1 v2 vn u a b → Face B v1 v2 vn a b u
-turn-face (over-u h) = over-b h
-turn-face (over-a h) = over-u h
-turn-face (over-b h) = over-a h
-turn-face (outer h) = outer (turn-outer h)
+turn-accounted : {C : List ℕ} {B : Build C} {v1 v2 vn u a b : ℕ} → Accounted B v1 v2 vn u a b → Accounted B v1 v2 vn a b u
+turn-accounted (over-u h) = over-b h
+turn-accounted (over-a h) = over-u h
+turn-accounted (over-b h) = over-a h
+turn-accounted (outer h) = outer (turn-outer h)
 
 -- all three placed: the new post is none of them, or by turning the first
 all-faces : (F : ℕ → ℕ → ℕ → Type 0) (R : Rings F) (T : ℕ → ℕ → ℕ → Type 0) (rot : (u a b : ℕ) → T u a b → T a b u) (done : List ℕ) (v : ℕ)
@@ -67,7 +61,7 @@ record Faced (G : List (List ℕ)) (v1 v2 vn : ℕ) (t : Stage) : Type 0 where
   tied : Tied G t
   first : post (t .placed) 1 ≡ v1
   second : post (t .placed) 2 ≡ v2
-  faces : (u a b : ℕ) → After G u a b → In u (t .placed) → In a (t .placed) → In b (t .placed) → Face (tied .B) v1 v2 vn u a b
+  faces : (u a b : ℕ) → After G u a b → In u (t .placed) → In a (t .placed) → In b (t .placed) → Accounted (tied .B) v1 v2 vn u a b
 
 last-to-first : (u : ℕ) (l : List ℕ) (v : ℕ) → In u (l ++ v ∷ []) → In u (v ∷ l)
 last-to-first u l v = in-append u l (v ∷ []) (λ i. inr i) (elim [ inl e ↦ inl e | inr z ↦ absurd z ])
@@ -81,10 +75,10 @@ module _ (G : List (List ℕ)) (F : Faces G) (v1 v2 vn : ℕ) (o : After G v2 v1
     abbrev T3 : Tied G (third v1 v2 v)
     T3 = tied-third G F v1 v2 v d12 d13 d23
 
-    corner : (a b : ℕ) → After G v a b → In a (v1 ∷ v2 ∷ []) → In b (v1 ∷ v2 ∷ []) → Face (T3 .B) v1 v2 vn v a b
+    corner : (a b : ℕ) → After G v a b → In a (v1 ∷ v2 ∷ []) → In b (v1 ∷ v2 ∷ []) → Accounted (T3 .B) v1 v2 vn v a b
     corner a b f (inl i) (inl j) = absurd (R .self v1 v (R .triangle v v1 v1 (rw (i, j) at f)))
     corner a b f (inl i) (inr (inl j)) = over-u (third-tri G F v1 v2 v d12 d13 d23 a b (inl (sym i, sym j)))
-    corner a b f (inr (inl i)) (inl j) = outer (out-u (R .next-one v2 v1 v vn (R .triangle v v2 v1 (rw (i, j) at f)) o) i j)
+    corner a b f (inr (inl i)) (inl j) = outer (inr (inr (R .next-one v2 v1 v vn (R .triangle v v2 v1 (rw (i, j) at f)) o, i, j)))
     corner a b f (inr (inl i)) (inr (inl j)) = absurd (R .self v2 v (R .triangle v v2 v2 (rw (i, j) at f)))
 
     -- two posts have no triangle
@@ -104,7 +98,7 @@ module _ (G : List (List ℕ)) (F : Faces G) (v1 v2 vn : ℕ) (o : After G v2 v1
           first = refl;
           second = refl;
           faces = λ u a b f i j k.
-              all-faces (After G) R (Face (T3 .B) v1 v2 vn) (λ u a b. turn-face) (v1 ∷ v2 ∷ []) v corner (λ u a b f i j k. absurd (flat u a b f i j k))
+              all-faces (After G) R (Accounted (T3 .B) v1 v2 vn) (λ u a b. turn-accounted) (v1 ∷ v2 ∷ []) v corner (λ u a b f i j k. absurd (flat u a b f i j k))
               u a b f (last-to-first u (v1 ∷ v2 ∷ []) v i) (last-to-first a (v1 ∷ v2 ∷ []) v j) (last-to-first b (v1 ∷ v2 ∷ []) v k);
         }
 
@@ -137,13 +131,13 @@ module _ (G : List (List ℕ)) (F : Faces G) (v1 v2 vn : ℕ) (o : After G v2 v1
             (R .next-one v2 v1 v vn (rw (eq, ep) at f') o, eq, ep)
         via (inr h) = absurd (not-back (S .X) (S .p) (S .M) (S .q) (S .Y) (K .once) h)
 
-    new-face : (a b : ℕ) → After G v a b → In a (t .placed) → In b (t .placed) → Face (T' .B) v1 v2 vn v a b
+    new-face : (a b : ℕ) → After G v a b → In a (t .placed) → In b (t .placed) → Accounted (T' .B) v1 v2 vn v a b
     new-face a b f i j =
         adj-cases a b (S .p ∷ S .M) (S .q) (S .p ∷ []) (λ h. over-u (tri-new G t v S (D .tied) F a b h))
-        (elim [ inl e ↦ let c = closes (rw (← (e .0), ← (e .1)) at f) in outer (out-u (c .0) (sym (e .0) ∙ c .1) (sym (e .1) ∙ c .2)) | inr h ↦ absurd (elim h [ inl e ↦ e .1 | inr k ↦ k ]) ])
+        (elim [ inl e ↦ let c = closes (rw (← (e .0), ← (e .1)) at f) in outer (inr (inr (c .0, sym (e .0) ∙ c .1, sym (e .1) ∙ c .2))) | inr h ↦ absurd (elim h [ inl e ↦ e .1 | inr k ↦ k ]) ])
         (S .the-run .inner a b f i j)
 
-    still : {u a b : ℕ} → Face (D .tied .B) v1 v2 vn u a b → Face (T' .B) v1 v2 vn u a b
+    still : {u a b : ℕ} → Accounted (D .tied .B) v1 v2 vn u a b → Accounted (T' .B) v1 v2 vn u a b
     still {u} {a} {b} (over-u h) = over-u (tri-old G t v S (D .tied) F a b u h)
     still {u} {a} {b} (over-a h) = over-a (tri-old G t v S (D .tied) F b u a h)
     still {u} {a} {b} (over-b h) = over-b (tri-old G t v S (D .tied) F u a b h)
@@ -158,7 +152,7 @@ module _ (G : List (List ℕ)) (F : Faces G) (v1 v2 vn : ℕ) (o : After G v2 v1
           first = rw e (List·getD-append (t .placed) (v ∷ []) 0 0 (omega arith) ∙ D .first);
           second = rw e (List·getD-append (t .placed) (v ∷ []) 0 1 (omega arith) ∙ D .second);
           faces = λ u a b f i j k.
-              all-faces (After G) R (Face (T' .B) v1 v2 vn) (λ u a b. turn-face) (t .placed) v new-face (λ u a b f i j k. still (D .faces u a b f i j k))
+              all-faces (After G) R (Accounted (T' .B) v1 v2 vn) (λ u a b. turn-accounted) (t .placed) v new-face (λ u a b f i j k. still (D .faces u a b f i j k))
               u a b f (last-to-first u (t .placed) v (rw e at i)) (last-to-first a (t .placed) v (rw e at j)) (last-to-first b (t .placed) v (rw e at k));
         }
 
@@ -175,15 +169,15 @@ module _ (G : List (List ℕ)) (vs : List ℕ) (A : Passes G vs) (k : ℕ) (h : 
 
   faced-at : Faced G v1 v2 vn (stage G (take k vs))
   faced-at =
-      let all : length vs ≡ length G = A .all in
-      let F = passes-faces G vs A in
-      let o = passes-outer G vs A in
-      let d = three-differ vs (passes-names G vs A .once) (omega arith) in
+      let all : length vs ≡ length G = A .board .all in
+      let F = boarded-faces G vs (A .board) in
+      let o = boarded-outer G vs (A .board) in
+      let d = three-differ vs (boarded-names G vs (A .board) .once) (omega arith) in
       at-each-stage G vs A (Faced G v1 v2 vn) (faced-third G F v1 v2 vn o (post vs 3) (d .0) (d .1) (d .2)) (faced-next G F v1 v2 vn o) k h (omega arith)
 
   -- a triangle of the rings turns counter-clockwise, unless it is the outer one
-  pub no-mirror-at : (u a b : ℕ) → Follows G u a b → In u (take k vs) → In a (take k vs) → In b (take k vs) → ¬ (Outer v1 v2 vn u a b)
-      → Turn (places (stage G (take k vs))) u a b
+  pub no-mirror-at : (u a b : ℕ) → Follows G u a b → In u (take k vs) → In a (take k vs) → In b (take k vs) → ¬ (OuterTriangle v1 v2 vn u a b)
+      → PositiveArea (places (stage G (take k vs))) u a b
   no-mirror-at u a b f iu ia ib out = go (D .faces u a b (follows-after G u a b f) (rw e iu) (rw e ia) (rw e ib))
     where
       D : Faced G v1 v2 vn (stage G (take k vs))
@@ -192,7 +186,7 @@ module _ (G : List (List ℕ)) (vs : List ℕ) (A : Passes G vs) (k : ℕ) (h : 
       e : stage G (take k vs) .placed ≡ take k vs
       e = placed-at G vs A k h i
 
-      go : Face (D .tied .B) v1 v2 vn u a b → Turn (places (stage G (take k vs))) u a b
+      go : Accounted (D .tied .B) v1 v2 vn u a b → PositiveArea (places (stage G (take k vs))) u a b
       go (over-u h) = let t = tri-turn (places (stage G (take k vs))) (D .tied .B) a b u (turns (D .tied .drawn)) h in omega (arith, t)
       go (over-a h) = let t = tri-turn (places (stage G (take k vs))) (D .tied .B) b u a (turns (D .tied .drawn)) h in omega (arith, t)
       go (over-b h) = tri-turn (places (stage G (take k vs))) (D .tied .B) u a b (turns (D .tied .drawn)) h
@@ -201,13 +195,13 @@ module _ (G : List (List ℕ)) (vs : List ℕ) (A : Passes G vs) (k : ℕ) (h : 
   -- before the last stage vn waits, and every triangle turns so
   vn-waits : k < length G → (a : ℕ) → In a (take k vs) → a ≢ vn
   vn-waits l a j e =
-      let all : length vs ≡ length G = A .all in
+      let all : length vs ≡ length G = A .board .all in
       let r = in-take k vs a j in
-      post-new vs (passes-names G vs A .once) (length G) (omega arith) (omega arith)
+      post-new vs (boarded-names G vs (A .board) .once) (length G) (omega arith) (omega arith)
       (subst (λ (m : ℕ). In m (take (length G - 1) vs)) (r .3 ∙ e) (take-in (length G - 1) vs (r .0) (omega (arith, r .1)) (r .2)))
 
   pub no-mirror-before : k < length G → (u a b : ℕ) → Follows G u a b → In u (take k vs) → In a (take k vs) → In b (take k vs)
-      → Turn (places (stage G (take k vs))) u a b
+      → PositiveArea (places (stage G (take k vs))) u a b
   no-mirror-before l u a b f iu ia ib =
       no-mirror-at u a b f iu ia ib
-      (elim [ out-u e f g ↦ vn-waits l u iu e | out-a e f g ↦ vn-waits l a ia e | out-b e f g ↦ vn-waits l b ib e ])
+      (elim [ inl t ↦ vn-waits l b ib (t .2) | inr r ↦ elim r [ inl t ↦ vn-waits l a ia (t .1) | inr t ↦ vn-waits l u iu (t .0) ] ])

@@ -7,7 +7,7 @@ use native.Mathlib.Omega.{arith}
 use Rattle.words.specs.Lists.{In}
 use Rattle.drawing.specs.Meeting.{Places}
 use Rattle.drawing.proofs.Numbers.{by-le}
-use Rattle.drawing.proofs.Fan.{Turn}
+use Rattle.drawing.specs.Areas.{PositiveArea}
 use Rattle.drawing.proofs.Lists.{Chain, chain-map, chain-in, in-right, in-run}
 use Rattle.drawing.proofs.Build.{Build, base, post, Post, Before, Good, on-contour}
 use Rattle.plane.proofs.Turns.{moved-turn, scaled}
@@ -19,7 +19,7 @@ pub record Left (s : Places) (g : ℕ → ℕ) (a b : ℕ) : Type 0 where
 
 -- v over two neighbours of its run
 pub record Held (s : Places) (g : ℕ → ℕ) (v a b : ℕ) : Type 0 where
-  pub turn : Turn s a b v
+  pub turn : PositiveArea s a b v
   pub from : g a ≤ g v
   pub to : g v ≤ g b
   pub low-a : g v < g b → s .y a ≤ s .y v

@@ -9,7 +9,7 @@ use borrow.Author.Tests.{eq-eqb, ne-eqb}
 use Rattle.words.specs.Lists.{In}
 use Rattle.placing.specs.Stages.{Stage, third}
 use Rattle.drawing.specs.Meeting.{Places}
-use Rattle.drawing.proofs.Fan.{Turn}
+use Rattle.drawing.specs.Areas.{PositiveArea}
 use Rattle.drawing.proofs.Build.{Build, base, post, Post, on-contour}
 use Rattle.plane.proofs.Shift.{Held}
 use Rattle.plane.proofs.Step.{Laid}
@@ -25,7 +25,7 @@ pub record Corner (s : Places) (g : ℕ → ℕ) (u X Y k : ℕ) : Type 0 where
   pub place : g u ≡ k
 
 module _ (s : Places) (g : ℕ → ℕ) (a b c : ℕ) (A : Corner s g a 0 0 0) (B : Corner s g b 2 0 2) (C : Corner s g c 1 1 1) where
-  turn : Turn s a b c
+  turn : PositiveArea s a b c
   turn = rw (A .isX, A .isY, B .isX, B .isY, C .isX, C .isY) (omega arith)
 
   held : Held s g c a b

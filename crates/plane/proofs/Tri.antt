@@ -6,7 +6,7 @@ use mathlib.Core.List.{List, [], _∷_, _++_}
 use Rattle.words.proofs.Lists.{Adj}
 use Rattle.drawing.specs.Meeting.{Places}
 use Rattle.drawing.proofs.Lists.{Chain}
-use Rattle.drawing.proofs.Fan.{Turn}
+use Rattle.drawing.specs.Areas.{PositiveArea}
 use Rattle.drawing.proofs.Build.{Build, base, post, Good}
 
 chain-adj : (E : ℕ → ℕ → Type 0) (l : List ℕ) (a b : ℕ) → Chain E l → Adj l a b → E a b
@@ -20,6 +20,6 @@ abbrev pub Tri : {C : List ℕ} → Build C → ℕ → ℕ → ℕ → Type 0
 Tri (base k l) a b v = ⊥
 Tri (post L p M q R u B) a b v = ((v ≡ u) × Adj (p ∷ (M ++ q ∷ [])) a b) ⊎ Tri B a b v
 
-pub tri-turn : (s : Places) {C : List ℕ} (B : Build C) (a b v : ℕ) → Good s B → Tri B a b v → Turn s a b v
-tri-turn s (post L p M q R u B) a b v g (inl h) = rw (h .0) (chain-adj (λ c d. Turn s c d u) (p ∷ (M ++ q ∷ [])) a b (g .0 .over) (h .1))
+pub tri-turn : (s : Places) {C : List ℕ} (B : Build C) (a b v : ℕ) → Good s B → Tri B a b v → PositiveArea s a b v
+tri-turn s (post L p M q R u B) a b v g (inl h) = rw (h .0) (chain-adj (λ c d. PositiveArea s c d u) (p ∷ (M ++ q ∷ [])) a b (g .0 .over) (h .1))
 tri-turn s (post L p M q R u B) a b v g (inr h) = tri-turn s B a b v (g .1) h

@@ -1,7 +1,7 @@
 -- Plane and triangulated, said by quantifiers: what the lists must be, whatever the unit tests.
 use Prim.Native.Nat.{ℕ, _+_, _*_, _-_, _<_}
 use mathlib.Core.Path.{_≡_}
-use mathlib.Core.Logic.{_≢_}
+use mathlib.Core.Logic.{_⊎_, _≢_}
 use mathlib.Core.List.{List, _∷_, _++_, map}
 use lib.ListN.{length}
 use Rattle.words.specs.Numbers.{sumOf}
@@ -20,6 +20,11 @@ pub data Reached (G : List (List ℕ)) (v1 : ℕ) : ℕ → Type 0 where
 -- a wire with both ends among these posts
 abbrev pub Wire : List (List ℕ) → List ℕ → ℕ → ℕ → Type 0
 Wire G placed a b = In a placed × In b placed × In b (ring G a)
+
+-- u, a, b is the outer triangle v2, v1, vn, read from any of its posts on
+abbrev pub OuterTriangle : ℕ → ℕ → ℕ → ℕ → ℕ → ℕ → Type 0
+OuterTriangle v1 v2 vn u a b =
+    ((u ≡ v2) × (a ≡ v1) × (b ≡ vn)) ⊎ (((u ≡ v1) × (a ≡ vn) × (b ≡ v2)) ⊎ ((u ≡ vn) × (a ≡ v2) × (b ≡ v1)))
 
 -- the lists form a triangulated plane graph with the outer triangle v1, v2, vn
 pub record Plane (G : List (List ℕ)) (v1 v2 vn : ℕ) : Type 0 where

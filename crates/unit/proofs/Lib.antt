@@ -3,3 +3,4 @@ pub mod Third
 pub mod Demanded
 pub mod Calls
 pub mod Written
+pub mod Mirror

@@ -1,3 +1,4 @@
 pub mod Replies
 pub mod Demands
+pub mod Mirror
 pub mod Starred
