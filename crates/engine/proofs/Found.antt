@@ -26,7 +26,7 @@ use Rattle.order.proofs.Growth.{Grown, grow-at}
 use Rattle.order.proofs.Runs.{whole-is-last}
 use Rattle.order.proofs.Found.{run-after-length, run-at-v1, from-inside}
 use Rattle.order.proofs.Starts.{startsAt}
-use Rattle.order.proofs.Sound.{Passes, passes-names, passes-faces, passes-outer}
+use Rattle.order.proofs.Sound.{Passes, boarded-names, boarded-faces, boarded-outer}
 use Rattle.placing.specs.Stages.{Stage, stage}
 use Rattle.placing.proofs.Steps.{Step, step-at, contours, stage-placed}
 use Rattle.placing.proofs.Placed.{p-placed}
@@ -140,10 +140,10 @@ module _ (G : List (List ℕ)) (vs : List ℕ) (A : Passes G vs) (k : ℕ) (h : 
   s = step-at G vs A k h i
 
   abbrev F : Faces G
-  F = passes-faces G vs A
+  F = boarded-faces G vs (A .board)
 
   n : length vs ≡ length G
-  n = A .all
+  n = A .board .all
 
   before : earlier vs (k + 1) ≡ take k vs
   before = let e : k + 1 - 1 ≡ k = omega arith in rw e refl
@@ -157,7 +157,7 @@ module _ (G : List (List ℕ)) (vs : List ℕ) (A : Passes G vs) (k : ℕ) (h : 
   grown : Grown G (post vs 1) (post vs 2) (take k vs) (stage G (take k vs) .contour) (post vs (k + 1))
   grown =
       subst (λ (l : List ℕ). Grown G (post vs 1) (post vs 2) l (stage G (take k vs) .contour) (post vs (k + 1))) before
-      (grow-at G vs F (passes-outer G vs A) (passes-names G vs A) (k + 1) (omega arith) (omega arith) (stage G (take k vs) .contour)
+      (grow-at G vs F (boarded-outer G vs (A .board)) (boarded-names G vs (A .board)) (k + 1) (omega arith) (omega arith) (stage G (take k vs) .contour)
       (subst⁻¹ (λ (l : List ℕ). Contour (After G) (post vs 1) (post vs 2) l (stage G (take k vs) .contour)) before contour)
       (A .two (k + 1) (omega arith) (omega arith)) (A .run (k + 1) (omega arith) (omega arith)))
 
@@ -183,7 +183,7 @@ module _ (G : List (List ℕ)) (vs : List ℕ) (A : Passes G vs) (k : ℕ) (h : 
   near-on = subst (In (s .p)) placed-is (p-placed G (stage G (take k vs)) (post vs (k + 1)) s)
 
   once : Once (ring G (post vs (k + 1)))
-  once = ring-once G F (post vs (k + 1)) (passes-names G vs A .below (post vs (k + 1)) (place-in vs (k + 1 - 1) (omega (arith, n))))
+  once = ring-once G F (post vs (k + 1)) (boarded-names G vs (A .board) .below (post vs (k + 1)) (place-in vs (k + 1 - 1) (omega (arith, n))))
 
   -- where a placed entry follows one that is not
   at-pair : (b c : ℕ) → After G (post vs (k + 1)) b c → ¬ (In b (take k vs)) → In c (take k vs) → (c ≡ s .p) × (count (mem (take k vs)) (ring G (post vs (k + 1))) ≡ length (s .M) + 2)
@@ -199,12 +199,12 @@ module _ (G : List (List ℕ)) (vs : List ℕ) (A : Passes G vs) (k : ℕ) (h : 
   v1-near : post vs (k + 1) ≡ post vs (length G) → In (post vs 1) (ring G (post vs (k + 1)))
   v1-near e =
       let v1 = post vs 1 in let v2 = post vs 2 in let vn = post vs (length G) in
-      rw e (around-in (ring G vn) v2 v1 (F .triangle v1 vn v2 (F .triangle v2 v1 vn (passes-outer G vs A))) .1)
+      rw e (around-in (ring G vn) v2 v1 (F .triangle v1 vn v2 (F .triangle v2 v1 vn (boarded-outer G vs (A .board)))) .1)
 
   at-all : ((a : ℕ) → In a (ring G (post vs (k + 1))) → In a (take k vs)) → (post vs 1 ≡ s .p) × (count (mem (take k vs)) (ring G (post vs (k + 1))) ≡ length (s .M) + 2)
   at-all all =
       let l = ring G (post vs (k + 1)) in
-      let e = whole-is-last G F (post vs 1) (post vs 2) (post vs (length G)) (passes-outer G vs A) (take k vs) (stage G (take k vs) .contour) (post vs (k + 1)) contour new (s .p) near all in
+      let e = whole-is-last G F (post vs 1) (post vs 2) (post vs (length G)) (boarded-outer G vs (A .board)) (take k vs) (stage G (take k vs) .contour) (post vs (k + 1)) contour new (s .p) near all in
       let w = in-place l (post vs 1) (v1-near e) in
       let r = run-at-v1 G (take k vs) (post vs (k + 1)) once all (w .0) (w .1) (w .2 ∙ sym (getD-take k vs 0 0 (omega arith))) in
       let z : w .0 + 0 ≡ w .0 = omega arith in

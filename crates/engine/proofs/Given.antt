@@ -18,7 +18,7 @@ use Rattle.block.specs.Layout.{limit}
 use Rattle.rings.specs.Held.{held}
 use Rattle.rings.proofs.Around.{After}
 use Rattle.order.proofs.Contour.{Contour}
-use Rattle.order.proofs.Sound.{passes-names}
+use Rattle.order.proofs.Sound.{boarded-names}
 use Rattle.placing.specs.Stages.{stage}
 use Rattle.placing.specs.Records.{leftOf, rightOf, standing, recordOf, entriesOf}
 use Rattle.placing.specs.declared.Standing.the-variants.{Waiting, OnContour, Covered}
@@ -103,7 +103,7 @@ module _ (at ents vs rank : List ℕ) (A : Accepted at ents vs rank) (k : ℕ) (
       ∙ pairs-same xs ys (stage (held at ents) (take k vs) .x) (stage (held at ents) (take k vs) .y) (stage (held at ents) (take k vs) .placed) (λ u q. (D .column u q, S .height u q))
 
   C : Contour (After (held at ents)) (post vs 1) (post vs 2) (take k vs) (stage (held at ents) (take k vs) .contour)
-  C = contours G vs (A .passes) k h (omega (arith, A .passes .all))
+  C = contours G vs (A .passes) k h (omega (arith, A .passes .board .all))
 
   v1-is : post (stage (held at ents) (take k vs) .placed) 1 ≡ post vs 1
   v1-is = ap (λ (l : List ℕ). post l 1) placed-is ∙ getD-take k vs 0 0 (omega arith)
@@ -143,7 +143,7 @@ module _ (at ents vs rank : List ℕ) (A : Accepted at ents vs rank) (k : ℕ) (
       let w = in-take k vs u (subst (In u) placed-is q) in
       let l = later at ents vs rank A k h i ys off cover left right (D .holds) xs (D .roomy) (w .0) (w .1) (λ c. n (subst (λ (a : ℕ). In a (stage (held at ents) (take k vs) .contour)) (w .3) c)) in
       let f : getD vs (l .0) 0 ≡ getD vs (w .0) 0 = l .3 ∙ ap (stage (held at ents) (take k vs) .cover) (w .3) ∙ sym (S .covers u q n) ∙ e ∙ sym (w .3) in
-      let d = once-different vs (passes-names G vs (A .passes) .once) (l .0) (w .0) (omega (arith, l .2)) (w .2) f in
+      let d = once-different vs (boarded-names G vs (A .passes .board) .once) (l .0) (w .0) (omega (arith, l .2)) (w .2) f in
       omega (arith, l .1)
 
   stands : (u : ℕ) → In u (stage (held at ents) (take k vs) .placed)
@@ -169,7 +169,7 @@ module _ (at ents vs rank : List ℕ) (A : Accepted at ents vs rank) (k : ℕ) (
   record-is u l = go (in-dec u (stage (held at ents) (take k vs) .placed))
     where
       t : mem (stage (held at ents) (take k vs) .placed) u ≡ before rank (k + 1) u
-      t = ap (λ (r : List ℕ). mem r u) placed-is ∙ placed-by vs rank k (passes-names G vs (A .passes) .once) (A .ranked) u l
+      t = ap (λ (r : List ℕ). mem r u) placed-is ∙ placed-by vs rank k (boarded-names G vs (A .passes .board) .once) (A .ranked) u l
 
       go : Dec (In u (stage (held at ents) (take k vs) .placed)) → recordBy rank k xs ys cover left right u
           ≡ cond (mem (stage (held at ents) (take k vs) .placed) u)
@@ -182,8 +182,8 @@ module _ (at ents vs rank : List ℕ) (A : Accepted at ents vs rank) (k : ℕ) (
   -- the posts placed have room
   pub names-fit : (j : ℕ) → j < k → (getD vs j 0 < length xs) × (getD vs j 0 < length ys)
   names-fit j l =
-      let b = passes-names G vs (A .passes) .below (getD vs j 0) (place-in vs j (omega arith)) in
-      (omega (arith, A .passes .all, D .roomy), omega (arith, A .passes .all, D .holds .room .of-ys))
+      let b = boarded-names G vs (A .passes .board) .below (getD vs j 0) (place-in vs j (omega arith)) in
+      (omega (arith, A .passes .board .all, D .roomy), omega (arith, A .passes .board .all, D .holds .room .of-ys))
 
   pub sheet-is : (B B' : List ℕ) → B' ≡ pairs xs ys (take k vs) ++ drop (2 * k) B → B' ≡ entriesOf (stage (held at ents) (take k vs)) ++ drop (2 * k) B
   sheet-is B B' e = e ∙ ap (λ (l : List ℕ). l ++ drop (2 * k) B) entries-are

@@ -11,7 +11,7 @@ use Rattle.words.specs.Lists.{In}
 use Rattle.words.specs.Positions.{post}
 use Rattle.words.proofs.Lists.{Head, in-head, head-same, in-dec, in-left, in-right, in-cases, swap-in}
 use Rattle.words.proofs.Tests.{eqb-same, eqb-other, place-in, once-different}
-use Rattle.order.proofs.Sound.{Passes, passes-names}
+use Rattle.order.proofs.Sound.{Passes, boarded-names}
 use Rattle.placing.specs.Stages.{Stage, third, placeOver, place, stage}
 use Rattle.placing.proofs.Steps.{Step, step-at, place-placed, at-each-stage}
 use Rattle.placing.proofs.Placed.{place-group, place-cover, place-x-old}
@@ -251,7 +251,7 @@ kept-third v1 v2 v3 d12 d13 d23 =
 
 module _ (G : List (List ℕ)) (vs : List ℕ) (A : Passes G vs) where
   pub apart : (i j : ℕ) → i < length vs → j < length vs → ¬ (i ≡ j) → getD vs i 0 ≢ getD vs j 0
-  apart i j h k n e = n (once-different vs (passes-names G vs A .once) i j h k e)
+  apart i j h k n e = n (once-different vs (boarded-names G vs (A .board) .once) i j h k e)
 
   pub kept-at : (k : ℕ) → 3 ≤ k → k ≤ length vs → Kept (stage G (take k vs))
   kept-at k h i =
@@ -263,5 +263,5 @@ module _ (G : List (List ℕ)) (vs : List ℕ) (A : Passes G vs) where
   -- the step from stage k
   pub moves-at : (k : ℕ) (h : 3 ≤ k) (i : k < length G) → Moves G (stage G (take k vs)) (post vs (k + 1)) (step-at G vs A k h i)
   moves-at k h i =
-      let n : length vs ≡ length G = A .all in
+      let n : length vs ≡ length G = A .board .all in
       moves G (stage G (take k vs)) (post vs (k + 1)) (step-at G vs A k h i) (kept-at k h (omega arith))

@@ -16,7 +16,7 @@ use Rattle.rings.specs.Held.{held}
 use Rattle.rings.proofs.Held.{held-part}
 use Rattle.rings.proofs.Turns.{part-at}
 use Rattle.rings.proofs.Says.{entry-below}
-use Rattle.order.proofs.Sound.{passes-names, passes-faces}
+use Rattle.order.proofs.Sound.{boarded-names, boarded-faces}
 use Rattle.placing.specs.Stages.{Stage, stage}
 use Rattle.placing.proofs.Steps.{Step, step-at, stage-next, stage-placed}
 use Rattle.arrays.specs.Arrays.{Ready, Over}
@@ -38,7 +38,7 @@ module _ (at ents vs rank : List ℕ) (A : Accepted at ents vs rank) (k : ℕ) (
   G = held at ents
 
   many : length (held at ents) ≡ length vs
-  many = sym (A .passes .all)
+  many = sym (A .passes .board .all)
 
   i' : k < length (held at ents)
   i' = omega (arith, many)
@@ -53,7 +53,7 @@ module _ (at ents vs rank : List ℕ) (A : Accepted at ents vs rank) (k : ℕ) (
   new-is = let e : k + 1 - 1 ≡ k = omega arith in rw e refl
 
   pub new-below : getD vs k 0 < length vs
-  new-below = omega (arith, many, passes-names G vs (A .passes) .below (getD vs k 0) (place-in vs k i))
+  new-below = omega (arith, many, boarded-names G vs (A .passes .board) .below (getD vs k 0) (place-in vs k i))
 
   placed-is : stage (held at ents) (take k vs) .placed ≡ take k vs
   placed-is = stage-placed G vs k h (omega arith)
@@ -61,7 +61,7 @@ module _ (at ents vs rank : List ℕ) (A : Accepted at ents vs rank) (k : ℕ) (
   -- the ring, from b to e
   module _ (v j b e : ℕ) (ev : v ≡ getD vs k 0) (ej : j ≡ v) (eb : b ≡ getD at j 0) (ee : e ≡ getD at (j + 1) 0) where
     pub j-below : j + 1 < length at
-    j-below = omega (arith, new-below, A .all)
+    j-below = omega (arith, new-below, A .passes .board .all)
 
     v-is : v ≡ post vs (k + 1)
     v-is = ev ∙ new-is
@@ -83,7 +83,7 @@ module _ (at ents vs rank : List ℕ) (A : Accepted at ents vs rank) (k : ℕ) (
         go (x ∷ l) q z = omega arith
 
     in-ring : (a : ℕ) → In a (slice b e ents) → a < length vs
-    in-ring a q = omega (arith, many, entry-below G (passes-faces G vs (A .passes)) (post vs (k + 1)) a (subst⁻¹ (In a) ring-is q))
+    in-ring a q = omega (arith, many, entry-below G (boarded-faces G vs (A .passes .board)) (post vs (k + 1)) a (subst⁻¹ (In a) ring-is q))
 
     entry : (c : ℕ) → b ≤ c → c < e → In (getD ents c 0) (slice b e ents)
     entry c x y = subst (λ (a : ℕ). In a (slice b e ents)) (part-at ents b e c x y in-ents) (place-in (slice b e ents) (c - b) (omega (arith, long)))
@@ -95,7 +95,7 @@ module _ (at ents vs rank : List ℕ) (A : Accepted at ents vs rank) (k : ℕ) (
     ranked c x y = omega (arith, in-ring (getD ents c 0) (entry c x y), A .ranked .room)
 
     same : (a : ℕ) → In a (slice b e ents) → earlier-than rank (k + 1) a ≡ mem (take k vs) a
-    same a q = sym (placed-by vs rank k (passes-names G vs (A .passes) .once) (A .ranked) a (in-ring a q))
+    same a q = sym (placed-by vs rank k (boarded-names G vs (A .passes .board) .once) (A .ranked) a (in-ring a q))
 
     last-is : getD ents (e - 1) 0 ≡ lastOf 0 (slice b e ents)
     last-is =
@@ -124,7 +124,7 @@ module _ (at ents vs rank : List ℕ) (A : Accepted at ents vs rank) (k : ℕ) (
       names : (a : ℕ) → In a (stage (held at ents) (take k vs) .placed) → a < length vs
       names a q =
           let w = in-take k vs a (subst (In a) placed-is q) in
-          omega (arith, many, subst (λ (c : ℕ). c < length (held at ents)) (w .3) (passes-names G vs (A .passes) .below (getD vs (w .0) 0) (place-in vs (w .0) (w .2))))
+          omega (arith, many, subst (λ (c : ℕ). c < length (held at ents)) (w .3) (boarded-names G vs (A .passes .board) .below (getD vs (w .0) 0) (place-in vs (w .0) (w .2))))
 
       few : length (stage (held at ents) (take k vs) .placed) ≤ 1000
       few = omega (arith, ap length placed-is, length-take-le k vs (omega arith), A .most)

@@ -16,7 +16,7 @@ use Rattle.words.proofs.Positions.{in-take, take-in}
 use Rattle.rings.specs.Held.{held}
 use Rattle.rings.proofs.Around.{After}
 use Rattle.order.proofs.Contour.{Contour}
-use Rattle.order.proofs.Sound.{passes-names}
+use Rattle.order.proofs.Sound.{boarded-names}
 use Rattle.placing.specs.Stages.{Stage, stage}
 use Rattle.placing.proofs.Steps.{contours, stage-placed}
 use Rattle.plane.proofs.Sheet.{within}
@@ -86,7 +86,7 @@ module _ (at ents vs rank : List ℕ) (A : Accepted at ents vs rank) (k : ℕ) (
   n = length vs
 
   many : length (held at ents) ≡ length vs
-  many = sym (A .passes .all)
+  many = sym (A .passes .board .all)
 
   K : Kept (stage (held at ents) (take k vs))
   K = kept-at G vs (A .passes) k h i
@@ -98,10 +98,10 @@ module _ (at ents vs rank : List ℕ) (A : Accepted at ents vs rank) (k : ℕ) (
   placed-is = stage-placed G vs k h i
 
   once : Once vs
-  once = passes-names G vs (A .passes) .once
+  once = boarded-names G vs (A .passes .board) .once
 
   name : (j : ℕ) → j < k → getD vs j 0 < length vs
-  name j l = omega (arith, many, passes-names G vs (A .passes) .below (getD vs j 0) (place-in vs j (omega arith)))
+  name j l = omega (arith, many, boarded-names G vs (A .passes .board) .below (getD vs j 0) (place-in vs j (omega arith)))
 
   placed-at : (j : ℕ) → j < k → In (getD vs j 0) (stage (held at ents) (take k vs) .placed)
   placed-at j l = subst⁻¹ (In (getD vs j 0)) placed-is (take-in k vs j l (omega arith))

@@ -10,7 +10,7 @@ use Rattle.words.specs.Lists.{In}
 use Rattle.words.proofs.Lists.{Adj}
 use Rattle.words.proofs.Tests.{eqb-same, eqb-other, place-in}
 use Rattle.rings.specs.Held.{held}
-use Rattle.order.proofs.Sound.{passes-names}
+use Rattle.order.proofs.Sound.{boarded-names}
 use Rattle.placing.specs.Stages.{Stage, third}
 use Rattle.placing.proofs.Steps.{stage-third}
 use Rattle.engine.specs.Found.{Accepted}
@@ -113,8 +113,8 @@ module _ (at ents vs rank ys off cover left right : List ℕ) (A : Accepted at e
   pub corners : Corners (getD vs 0 0) (getD vs 1 0) (getD vs 2 0) ys off cover left right
   corners =
       let P = A .passes in
-      let n : length vs ≡ length (held at ents) = P .all in
-      let b = passes-names (held at ents) vs P .below in
+      let n : length vs ≡ length (held at ents) = P .board .all in
+      let b = boarded-names (held at ents) vs (P .board) .below in
       record {
         n = length vs;
         room = W;

@@ -1,28 +1,28 @@
 -- No row of check's table applies exactly when the lists and the order pass the tests.
 use Prim.Native.Nat.{ℕ, zero, suc, _+_, _*_, _-_, _≤_, _<_}
 use mathlib.Core.Path.{_≡_, refl, sym, ap, _∙_, subst}
-use mathlib.Core.Bool.{Bool, true, false, not, _&&_, true≢false}
+use mathlib.Core.Bool.{true, false, not}
 use mathlib.Core.List.{List, [], _∷_, _++_, map, flatMap}
 use native.Mathlib.Omega.{arith}
 use native.Mathlib.Decide.{ℕ-discrete}
-use lib.Dec.{ltb, eqb}
+use lib.Dec.{eqb}
 use lib.ListN.{length}
-use borrow.Author.Tests.{lt-ltb, ltb-true, eq-eqb, eqb-true, not-false}
+use borrow.Author.Tests.{eq-eqb, eqb-true, not-false}
 use Rattle.words.specs.First.{numbers, some}
 use Rattle.words.specs.Numbers.{sumOf}
-use Rattle.words.specs.Positions.{post, earlier, later}
+use Rattle.words.specs.Positions.{post, earlier}
 use Rattle.words.proofs.First.{some-none, some-false}
 use Rattle.words.proofs.Numbers.{words-length}
 use Rattle.words.proofs.Tests.{neither}
 use Rattle.block.specs.Layout.{entries, listsAt}
 use Rattle.block.specs.Block.{posts, order, degrees, listsFrom, lists, badEntry, badDegree, Framed}
 use Rattle.rings.specs.Rings.{ringRule, triangleRule, outerRule}
-use Rattle.order.specs.Order.{twoPlaced, oneRun, oneLater}
-use Rattle.order.proofs.Sound.{Passes}
-use Rattle.lamp.specs.Lamp.{Row, blockRows, positionRows, checkRows, ringFault, triangleFault}
+use Rattle.order.specs.Order.{twoPlaced, oneRun}
+use Rattle.order.proofs.Sound.{Boarded, Passes}
+use Rattle.lamp.specs.Lamp.{Row, blockRows, positionRows, orderRows, checkRows, ringFault, triangleFault}
 use Rattle.lamp.specs.Given.{NoneApplies}
 use Rattle.lamp.specs.Held.{headRows, listRows, ringRows}
-use Rattle.lamp.proofs.Heads.{framed-none}
+use Rattle.lamp.proofs.Heads.{framed, framed-none}
 use Rattle.lamp.proofs.Sounds.{order-length}
 
 -- ---- the lists are as long as the degrees say
@@ -56,7 +56,7 @@ pub none-right : (a b : List Row) (s : List ℕ) → NoneApplies (a ++ b) s → 
 none-right [] b s h = h
 none-right (r ∷ a) b s h = none-right a b s (h .1)
 
-none-both : (a b : List Row) (s : List ℕ) → NoneApplies a s → NoneApplies b s → NoneApplies (a ++ b) s
+pub none-both : (a b : List Row) (s : List ℕ) → NoneApplies a s → NoneApplies b s → NoneApplies (a ++ b) s
 none-both [] b s h k = k
 none-both (r ∷ a) b s h k = (h .0, none-both a b s (h .1) k)
 
@@ -75,15 +75,7 @@ all-positions s zero k f = tt
 all-positions s (suc m) k f =
     none-both (positionRows k) (flatMap positionRows (numbers (suc k) m)) s (f k (omega arith) (omega arith)) (all-positions s m (suc k) (λ j a b. f j (omega arith) (omega arith)))
 
-and-false : (x y : Bool) → x && y ≡ false → x ≡ true → y ≡ false
-and-false true y e t = e
-and-false false y e t = absurd (true≢false (sym t))
-
-false-and : (x y : Bool) → (x ≡ true → y ≡ false) → x && y ≡ false
-false-and true y f = f refl
-false-and false y f = refl
-
--- ---- steps 7 to 14
+-- ---- steps 7 to 13
 
 module _ (s : List ℕ) where
   abbrev G : List (List ℕ)
@@ -92,64 +84,84 @@ module _ (s : List ℕ) where
   abbrev vs : List ℕ
   vs = order s
 
-  pub none-passes : NoneApplies (checkRows s) s → Passes (lists s) (order s)
-  unfolding checkRows blockRows positionRows
-  none-passes h =
+  -- rows 1 to 11 pass
+  pub none-boarded : NoneApplies blockRows s → Boarded (lists s) (order s)
+  unfolding blockRows
+  none-boarded h =
       let n = lists-count s in
-      let r = none-left blockRows (flatMap positionRows (numbers 3 (posts s - 2))) s h .1 .1 .1 .1 .1 .1 in
-      let q = at-positions s (posts s - 2) 3 in
-      let p = none-right blockRows (flatMap positionRows (numbers 3 (posts s - 2))) s h in
+      let r = h .1 .1 .1 .1 .1 .1 in
       let d = neither (some 0 (posts s) (badDegree (posts s) (degrees s))) _ (r .1 .0) in
       record {
         all = order-length s ∙ sym n;
         entries = λ k a b. rw n (some-none (badEntry (posts s) (order s)) 1 (posts s) (r .0) k a (omega (arith, n)));
         degrees = λ u a. rw (n, lists-degrees s) (some-none (badDegree (posts s) (degrees s)) 0 (posts s) (d .0) u (omega arith) (omega (arith, n)));
-        total = rw (lists-degrees s, n) (eqb-true (sumOf (degrees s)) (entries (posts s)) (not-false (eqb (sumOf (degrees s)) (entries (posts s))) (d .1)));
-        rings = λ u a. not-false (ringRule (lists s) u) (some-none (ringFault s) 0 (posts s) (r .1 .1 .0) u (omega arith) (omega (arith, n)));
-        triangles = λ u a. not-false (triangleRule (lists s) u) (some-none (triangleFault s) 0 (posts s) (r .1 .1 .1 .0) u (omega arith) (omega (arith, n)));
-        outer = rw n (not-false (outerRule (lists s) (post (order s) 1) (post (order s) 2) (post (order s) (posts s))) (r .1 .1 .1 .1 .0));
-        two = λ k a b. not-false (twoPlaced (lists s) (earlier (order s) k) (post (order s) k)) (q k p a (omega (arith, n)) .0);
-        run = λ k a b. not-false (oneRun (lists s) (earlier (order s) k) (post (order s) k)) (q k p a (omega (arith, n)) .1 .0);
-        later = λ k a b. not-false (oneLater (lists s) (later (order s) k) (post (order s) k)) (and-false (ltb k (posts s)) _ (q k p a (omega (arith, n)) .1 .1 .0) (lt-ltb k (posts s) (omega (arith, n))));
+        total =
+            rw (lists-degrees s, n) (eqb-true (sumOf (degrees s)) (entries (posts s)) (not-false (eqb (sumOf (degrees s)) (entries (posts s))) (d .1)));
+        rings = λ u a. not-false (ringRule G u) (some-none (ringFault s) 0 (posts s) (r .1 .1 .0) u (omega arith) (omega (arith, n)));
+        triangles = λ u a. not-false (triangleRule G u) (some-none (triangleFault s) 0 (posts s) (r .1 .1 .1 .0) u (omega arith) (omega (arith, n)));
+        outer = rw n (not-false (outerRule G (post vs 1) (post vs 2) (post vs (posts s))) (r .1 .1 .1 .1 .0));
       }
 
-  module _ (F : Framed s) (P : Passes (lists s) (order s)) where
+  pub none-framed : NoneApplies blockRows s → Framed s
+  unfolding blockRows
+  none-framed h = framed s (none-left headRows (listRows ++ ringRows) s h)
+
+  -- what 12 and 13 say where they pass at position k
+  pub none-position : (k : ℕ) → NoneApplies (positionRows k) s → (twoPlaced G (earlier vs k) (post vs k) ≡ true) × (oneRun G (earlier vs k) (post vs k) ≡ true)
+  unfolding positionRows
+  none-position k h = (not-false (twoPlaced G (earlier vs k) (post vs k)) (h .0), not-false (oneRun G (earlier vs k) (post vs k)) (h .1 .0))
+
+  -- the rule per position passes too
+  pub both-passes : NoneApplies blockRows s → NoneApplies (orderRows s) s → Passes (lists s) (order s)
+  both-passes h r =
+      let n = lists-count s in
+      let q = at-positions s (posts s - 2) 3 in
+      record {
+        board = none-boarded h;
+        two = λ k a b. none-position k (q k r a (omega (arith, n))) .0;
+        run = λ k a b. none-position k (q k r a (omega (arith, n))) .1;
+      }
+
+  pub none-passes : NoneApplies (checkRows s) s → Passes (lists s) (order s)
+  unfolding checkRows
+  none-passes h = both-passes (none-left blockRows (orderRows s) s h) (none-right blockRows (orderRows s) s h)
+
+  module _ (P : Passes (lists s) (order s)) where
     n-is : length (lists s) ≡ posts s
     n-is = lists-count s
 
+    abbrev B : Boarded (lists s) (order s)
+    B = P .board
+
     degrees-fine : some 0 (posts s) (badDegree (posts s) (degrees s)) ≡ false
     degrees-fine =
-        some-false (badDegree (posts s) (degrees s)) 0 (posts s) (λ u a b. rw (n-is, lists-degrees s) at (P .degrees u (omega (arith, n-is))))
+        some-false (badDegree (posts s) (degrees s)) 0 (posts s) (λ u a b. rw (n-is, lists-degrees s) at (B .degrees u (omega (arith, n-is))))
 
     total-fine : sumOf (degrees s) ≡ entries (posts s)
-    total-fine = rw (lists-degrees s, n-is) at (P .total)
+    total-fine = rw (lists-degrees s, n-is) at (B .total)
 
     block-none : NoneApplies (listRows ++ ringRows) s
     unfolding blockRows
     block-none = (
-      some-false (badEntry (posts s) (order s)) 1 (posts s) (λ k a b. rw n-is at (P .entries k a (omega (arith, n-is)))),
+      some-false (badEntry (posts s) (order s)) 1 (posts s) (λ k a b. rw n-is at (B .entries k a (omega (arith, n-is)))),
       (
         rw (degrees-fine, eq-eqb (sumOf (degrees s)) (entries (posts s)) total-fine) refl,
         (
-          some-false (ringFault s) 0 (posts s) (λ u a b. ap not (P .rings u (omega (arith, n-is)))),
-          (some-false (triangleFault s) 0 (posts s) (λ u a b. ap not (P .triangles u (omega (arith, n-is)))), (ap not (rw n-is at (P .outer)), tt)),
+          some-false (ringFault s) 0 (posts s) (λ u a b. ap not (B .rings u (omega (arith, n-is)))),
+          (some-false (triangleFault s) 0 (posts s) (λ u a b. ap not (B .triangles u (omega (arith, n-is)))), (ap not (rw n-is at (B .outer)), tt)),
         ),
       ),
     )
 
     position-none : (k : ℕ) → 3 ≤ k → k ≤ posts s → NoneApplies (positionRows k) s
     unfolding positionRows
-    position-none k a b = (
-      ap not (P .two k a (omega (arith, n-is))),
-      (
-        ap not (P .run k a (omega (arith, n-is))),
-        (false-and (ltb k (posts s)) (not (oneLater (lists s) (later (order s) k) (post (order s) k))) (λ t. ap not (P .later k a (omega (arith, ltb-true k (posts s) t, n-is)))), tt),
-      ),
-    )
+    position-none k a b = (ap not (P .two k a (omega (arith, n-is))), (ap not (P .run k a (omega (arith, n-is))), tt))
 
-    pub passes-none : NoneApplies (checkRows s) s
+    pub passes-order : 3 ≤ posts s → NoneApplies (orderRows s) s
+    passes-order least = all-positions s (posts s - 2) 3 (λ j a b. position-none j a (omega arith))
+
+    pub passes-none : Framed s → NoneApplies (checkRows s) s
     unfolding checkRows blockRows
-    passes-none =
-        none-both headRows (listRows ++ ringRows ++ flatMap positionRows (numbers 3 (posts s - 2))) s (framed-none s F)
-        (none-both (listRows ++ ringRows) (flatMap positionRows (numbers 3 (posts s - 2))) s block-none
-        (all-positions s (posts s - 2) 3 (λ j a b. position-none j a (omega (arith, F .posts-least)))))
+    passes-none F =
+        none-both headRows (listRows ++ ringRows ++ orderRows s) s (framed-none s F)
+        (none-both (listRows ++ ringRows) (orderRows s) s block-none (passes-order (F .posts-least)))

@@ -26,6 +26,16 @@ module _ {A : Type 0} (s : List ℕ) (answer : List ℕ → A) where
   given-past [] rest h = refl
   given-past (r ∷ rows) rest h = given-skip r (rows ++ rest) (h .0) ∙ given-past rows rest (h .1)
 
+  -- rests that are given alike where the rows before them pass
+  pub given-alike : (rows b c : List Row) → (NoneApplies rows s → given b s answer ≡ given c s answer) → given (rows ++ b) s answer ≡ given (rows ++ c) s answer
+  given-alike [] b c f = f tt
+  given-alike (r ∷ rows) b c f = go (r .when s) refl (given-alike rows b c)
+    where
+      go : (t : Bool) → r .when s ≡ t → ((NoneApplies rows s → given b s answer ≡ given c s answer) → given (rows ++ b) s answer ≡ given (rows ++ c) s answer)
+          → given (r ∷ rows ++ b) s answer ≡ given (r ∷ rows ++ c) s answer
+      go true e k = given-stop r (rows ++ b) e ∙ sym (given-stop r (rows ++ c) e)
+      go false e k = given-skip r (rows ++ b) e ∙ k (λ h. f (e, h)) ∙ sym (given-skip r (rows ++ c) e)
+
   pub given-none : (rows : List Row) → NoneApplies rows s → given rows s answer ≡ accepted (answer s)
   given-none rows h = ap (λ (l : List Row). given l s answer) (sym (append-nil rows)) ∙ given-past rows [] h ∙ given-end
 

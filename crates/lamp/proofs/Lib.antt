@@ -4,3 +4,4 @@ pub mod Loads
 pub mod Rows
 pub mod Sounds
 pub mod Accepts
+pub mod Retired

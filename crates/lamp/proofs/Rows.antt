@@ -1,22 +1,21 @@
--- Steps 9 to 14, by what the code found; the rows of positions one after the other.
+-- Steps 9 to 13, by what the code found; the rows of positions one after the other.
 use Prim.Native.Nat.{ℕ, suc, _+_, _-_, _≤_, _<_}
 use mathlib.Core.Path.{_≡_, refl, sym, ap, _∙_, subst⁻¹}
-use mathlib.Core.Bool.{Bool, true, false, not, cond, _&&_}
+use mathlib.Core.Bool.{Bool, true, false, not, cond}
 use mathlib.Core.List.{List, [], _++_, flatMap}
 use native.Mathlib.Omega.{arith}
 use native.Mathlib.Numerals.{add-one}
-use lib.Dec.{ltb}
 use lib.ListN.{length, getD}
 use borrow.Author.Tests.{lt-ltb, le-ltb}
 use Rattle.words.specs.First.{numbers, first, some}
-use Rattle.words.specs.Positions.{post, earlier, later}
+use Rattle.words.specs.Positions.{post, earlier}
 use Rattle.block.specs.Block.{posts, order, lists}
 use Rattle.rings.specs.Rings.{ringRule, triangleRule, outerRule}
 use Rattle.rings.specs.Held.{held}
-use Rattle.order.specs.Order.{twoPlaced, oneRun, oneLater}
+use Rattle.order.specs.Order.{twoPlaced, oneRun}
 use Rattle.order.specs.Held.{fitOf}
 use Rattle.order.specs.declared.Fit.{Fit}
-use Rattle.order.specs.declared.Fit.the-variants.{Good, Few, Broken, Last}
+use Rattle.order.specs.declared.Fit.the-variants.{Good, Few, Broken}
 use Rattle.lamp.specs.Lamp.{blockRows, positionRows, ringFault, triangleFault}
 use Rattle.lamp.specs.Given.{Reply, accepted, refused, given}
 use Rattle.order.proofs.Sound.{position-says}
@@ -38,7 +37,6 @@ abbrev pub answerAt : ℕ → Fit → Reply ℕ
 answerAt k Good = accepted k
 answerAt k Few = refused 12 k
 answerAt k Broken = refused 13 k
-answerAt k Last = refused 14 k
 
 module _ (s vs at ents : List ℕ) (L : Laid s vs at ents) where
   n-is : length vs ≡ posts s
@@ -84,28 +82,24 @@ module _ (s vs at ents : List ℕ) (L : Laid s vs at ents) where
 
   -- ---- position k, by what the rule found there
 
-  module _ (k : ℕ) (f : Fit) (ef : f ≡ fitOf (twoPlaced (held at ents) (earlier vs k) (post vs k)) (oneRun (held at ents) (earlier vs k) (post vs k)) (ltb k (length vs)) (oneLater (held at ents) (later vs k) (post vs k))) where
+  module _ (k : ℕ) (f : Fit) (ef : f ≡ fitOf (twoPlaced (held at ents) (earlier vs k) (post vs k)) (oneRun (held at ents) (earlier vs k) (post vs k))) where
     abbrev a : Bool
     a = twoPlaced (lists s) (earlier (order s) k) (post (order s) k)
 
     abbrev b : Bool
     b = oneRun (lists s) (earlier (order s) k) (post (order s) k)
 
-    abbrev c : Bool
-    c = ltb k (posts s) && not (oneLater (lists s) (later (order s) k) (post (order s) k))
-
-    f-is : f ≡ cond a (cond b (cond c Last Good) Broken) Few
-    f-is = rw (← (L .orders), ← (L .rings), ← n-is) ef
+    f-is : f ≡ cond a (cond b Good Broken) Few
+    f-is = rw (← (L .orders), ← (L .rings)) ef
 
     pub position-found : answerAt k f ≡ given (positionRows k) s (λ z. k)
     unfolding positionRows
-    position-found = ap (answerAt k) f-is ∙ go a b c refl refl refl
+    position-found = ap (answerAt k) f-is ∙ go a b refl refl
       where
-        go : (x y z : Bool) → a ≡ x → b ≡ y → c ≡ z → answerAt k (cond x (cond y (cond z Last Good) Broken) Few) ≡ given (positionRows k) s (λ w. k)
-        go false y z p q r = sym (given-stop s (λ w. k) _ _ (ap not p))
-        go true false z p q r = sym (given-skip s (λ w. k) _ _ (ap not p) ∙ given-stop s (λ w. k) _ _ (ap not q))
-        go true true true p q r = sym (given-skip s (λ w. k) _ _ (ap not p) ∙ given-skip s (λ w. k) _ _ (ap not q) ∙ given-stop s (λ w. k) _ _ r)
-        go true true false p q r = sym (given-skip s (λ w. k) _ _ (ap not p) ∙ given-skip s (λ w. k) _ _ (ap not q) ∙ given-skip s (λ w. k) _ _ r ∙ given-end s (λ w. k))
+        go : (x y : Bool) → a ≡ x → b ≡ y → answerAt k (cond x (cond y Good Broken) Few) ≡ given (positionRows k) s (λ w. k)
+        go false y p q = sym (given-stop s (λ w. k) _ _ (ap not p))
+        go true false p q = sym (given-skip s (λ w. k) _ _ (ap not p) ∙ given-stop s (λ w. k) _ _ (ap not q))
+        go true true p q = sym (given-skip s (λ w. k) _ _ (ap not p) ∙ given-skip s (λ w. k) _ _ (ap not q) ∙ given-end s (λ w. k))
 
 -- ---- the rows of the positions from k on
 

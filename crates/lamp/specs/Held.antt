@@ -12,7 +12,7 @@ use Rattle.rings.specs.Held.{held, Cuts}
 use Rattle.order.specs.Held.{Ranked}
 use Rattle.lamp.specs.Lamp.{Row, blockRows, positionRows}
 
--- the table's rows in the parts in which the code tries them: 1 to 6, 7 and 8, 9 to 11; and 12 to 14 at the positions from k on
+-- the table's rows in the parts in which the code tries them: 1 to 6, 7 and 8, 9 to 11; and 12 and 13 at the positions from k on
 abbrev pub headRows : List Row
 headRows = take 6 blockRows
 

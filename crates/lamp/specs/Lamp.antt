@@ -1,16 +1,16 @@
 -- Lamp red: the table of refusals. A row has its number, when it applies to a block, and the place it gives.
-use Prim.Native.Nat.{ℕ, _+_, _*_, _-_}
-use mathlib.Core.Bool.{Bool, not, _&&_, _||_}
+use Prim.Native.Nat.{ℕ, _*_, _-_}
+use mathlib.Core.Bool.{Bool, not, _||_}
 use mathlib.Core.List.{List, [], _∷_, _++_, flatMap}
 use lib.Dec.{ltb, leb, eqb}
 use lib.ListN.{length}
 use Rattle.words.specs.Numbers.{sumOf}
 use Rattle.words.specs.First.{numbers, first, some}
-use Rattle.words.specs.Positions.{post, earlier, later}
+use Rattle.words.specs.Positions.{post, earlier}
 use Rattle.block.specs.Layout.{limit, entries, size}
 use Rattle.block.specs.Block.{version, posts, order, degrees, lists, statedSum, earlierSum, marked, badEntry, badDegree}
 use Rattle.rings.specs.Rings.{ringRule, triangleRule, outerRule}
-use Rattle.order.specs.Order.{twoPlaced, oneRun, oneLater}
+use Rattle.order.specs.Order.{twoPlaced, oneRun}
 
 pub record Row : Type 0 where
   pub number : ℕ
@@ -63,17 +63,20 @@ blockRows =
     ∷ plain 11 (λ s. let vs = order s in not (outerRule (lists s) (post vs 1) (post vs 2) (post vs (posts s))))
     ∷ []
 
--- 12, 13 and 14, tried at position k
+-- 12 and 13, tried at position k (14 is retired: Retired.antt)
 unfoldable pub positionRows : ℕ → List Row
 positionRows k =
     record { number = 12; when = λ s. not (twoPlaced (lists s) (earlier (order s) k) (post (order s) k)); place = λ s. k }
     ∷ record { number = 13; when = λ s. not (oneRun (lists s) (earlier (order s) k) (post (order s) k)); place = λ s. k }
-    ∷ record { number = 14; when = λ s. ltb k (posts s) && not (oneLater (lists s) (later (order s) k) (post (order s) k)); place = λ s. k }
     ∷ []
 
--- 1 to 11 in that order; then positions 3, 4, up to n in turn
+-- the rule per position: positions 3, 4, up to n in turn
+abbrev pub orderRows : List ℕ → List Row
+orderRows s = flatMap positionRows (numbers 3 (posts s - 2))
+
+-- 1 to 11 in that order; then the rule per position
 unfoldable pub checkRows : List ℕ → List Row
-checkRows s = blockRows ++ flatMap positionRows (numbers 3 (posts s - 2))
+checkRows s = blockRows ++ orderRows s
 
 -- 15, for a stage k; 16, for a stage k and a buffer with room for so many entries; 17, for a name
 abbrev pub stageRow : ℕ → Row

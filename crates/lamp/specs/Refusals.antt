@@ -2,7 +2,7 @@
 use Prim.Native.Nat.{ℕ}
 use Rattle.lamp.specs.Given.{Reply, accepted, refused}
 use Rattle.lamp.specs.declared.Refusal.{Refusal}
-use Rattle.lamp.specs.declared.Refusal.the-variants.{Short, Mark, Version, Posts, Length, Sum, Order, Degrees, Ring, Triangle, Outer, Few, Broken, Last, Stage, Room, Name}
+use Rattle.lamp.specs.declared.Refusal.the-variants.{Short, Mark, Version, Posts, Length, Sum, Order, Degrees, Ring, Triangle, Outer, Few, Broken, Stage, Room, Name}
 use Rattle.lamp.specs.declared.Answer.{Answer}
 use Rattle.lamp.specs.declared.Answer.the-variants.{Accepted, Refused}
 
@@ -20,7 +20,6 @@ numberOf (Triangle u) = 10
 numberOf Outer = 11
 numberOf (Few k) = 12
 numberOf (Broken k) = 13
-numberOf (Last k) = 14
 numberOf Stage = 15
 numberOf Room = 16
 numberOf Name = 17
@@ -39,7 +38,6 @@ placeOf (Triangle u) = u
 placeOf Outer = 0
 placeOf (Few k) = k
 placeOf (Broken k) = k
-placeOf (Last k) = k
 placeOf Stage = 0
 placeOf Room = 0
 placeOf Name = 0

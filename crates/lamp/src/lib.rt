@@ -28,7 +28,6 @@ pub enum Refusal {
     Outer,
     Few(u16),
     Broken(u16),
-    Last(u16),
     Stage,
     Room,
     Name,
@@ -53,7 +52,6 @@ impl Refusal {
             Refusal::Outer => 11,
             Refusal::Few(_) => 12,
             Refusal::Broken(_) => 13,
-            Refusal::Last(_) => 14,
             Refusal::Stage => 15,
             Refusal::Room => 16,
             Refusal::Name => 17,
@@ -78,7 +76,6 @@ impl Refusal {
             Refusal::Outer => 0,
             Refusal::Few(p) => p,
             Refusal::Broken(p) => p,
-            Refusal::Last(p) => p,
             Refusal::Stage => 0,
             Refusal::Room => 0,
             Refusal::Name => 0,
@@ -172,7 +169,7 @@ fn board(s: &[u8], vs: &[u16], at: &[u16], ents: &[u16]) -> Answer
     Answer::Accepted(n as u16)
 }
 
-// Steps 12 to 14 at position k, which is answered where none applies.
+// Steps 12 and 13 at position k, which is answered where none applies.
 fn position(s: &[u8], vs: &[u16], at: &[u16], ents: &[u16], rank: &[u16], k: usize) -> Answer
     requires { ⌜ Laid (now s) (now vs) (now at) (now ents) × Ranked (now vs) (now rank) × Ringed (now s) × (1 ≤ k) × (k ≤ length (now vs)) ⌝ }
     ensures { λ r. ⌜ replyOf r ≡ given (positionRows k) (now (s .entry)) (λ z. k) ⌝ }
@@ -182,11 +179,10 @@ fn position(s: &[u8], vs: &[u16], at: &[u16], ents: &[u16], rank: &[u16], k: usi
         Fit::Good => Answer::Accepted(k as u16),
         Fit::Few => Answer::Refused(Refusal::Few(k as u16)),
         Fit::Broken => Answer::Refused(Refusal::Broken(k as u16)),
-        Fit::Last => Answer::Refused(Refusal::Last(k as u16)),
     }
 }
 
-// Steps 12 to 14, at positions 3 to n in turn.
+// Steps 12 and 13, at positions 3 to n in turn.
 fn fitting(s: &[u8], vs: &[u16], at: &[u16], ents: &[u16], rank: &[u16]) -> Answer
     requires { ⌜ Laid (now s) (now vs) (now at) (now ents) × Ranked (now vs) (now rank) × Ringed (now s) ⌝ }
     ensures { λ r. ⌜ replyOf r ≡ given (rowsFrom 3 (length (now (vs .entry)))) (now (s .entry)) posts ⌝ }
@@ -202,7 +198,7 @@ fn fitting(s: &[u8], vs: &[u16], at: &[u16], ents: &[u16], rank: &[u16]) -> Answ
     Answer::Accepted(n as u16)
 }
 
-// Steps 9 to 14, for arrays that hold the order and the lists; rank becomes the positions by name.
+// Steps 9 to 13, for arrays that hold the order and the lists; rank becomes the positions by name.
 fn order_and_board(s: &[u8], vs: &[u16], at: &[u16], ents: &[u16], rank: &mut [u16]) -> Answer
     requires { ⌜ Laid (now s) (now vs) (now at) (now ents) × (limit ≤ length (now rank)) × Entered (now s) ⌝ }
     ensures { λ r. ⌜ (replyOf r ≡ given (ringRows ++ rowsFrom 3 (posts (now (s .entry)))) (now (s .entry)) posts) × ((n : ℕ) → replyOf r ≡ accepted n → Ranked (order (now (s .entry))) (now (rank .exit))) ⌝ }

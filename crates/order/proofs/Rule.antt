@@ -1,23 +1,23 @@
 -- The rule at a position, by what the code counted in the ring of the post there.
 use Prim.Native.Nat.{ℕ, _+_, _-_, _≤_, _<_}
-use mathlib.Core.Path.{_≡_, refl, sym}
-use mathlib.Core.Bool.{Bool, true, false}
+use mathlib.Core.Path.{_≡_, refl}
+use mathlib.Core.Bool.{true, false}
 use mathlib.Core.List.{List}
 use native.Mathlib.Omega.{arith}
-use lib.Dec.{leb, ltb}
+use lib.Dec.{leb}
 use lib.ListN.{length, getD}
 use lib.Seq.{slice, length-slice}
-use borrow.Author.Tests.{lt-ltb, le-ltb, le-leb, lt-leb}
-use Rattle.words.specs.Lists.{In, mem, anyOf, count}
+use borrow.Author.Tests.{le-leb, lt-leb}
+use Rattle.words.specs.Lists.{In, mem, count}
 use Rattle.words.proofs.Tests.{is-true, is-false, count-length, place-in}
 use Rattle.rings.specs.Rings.{ring, around, ringRule}
 use Rattle.rings.specs.Held.{held}
 use Rattle.rings.proofs.Held.{held-length, held-part}
 use Rattle.rings.proofs.Turns.{part-at}
 use Rattle.rings.proofs.Says.{ring-says}
-use Rattle.order.specs.Order.{twoPlaced, oneRun, oneLater}
+use Rattle.order.specs.Order.{twoPlaced, oneRun}
 use Rattle.order.specs.Held.{Names, starts, fitOf}
-use Rattle.order.specs.declared.Fit.the-variants.{Good, Few, Broken, Last}
+use Rattle.order.specs.declared.Fit.the-variants.{Good, Few, Broken}
 use Rattle.order.proofs.Starts.{one-run-starts, starts-one-run}
 
 -- the ring of v is the entries from b to e
@@ -32,12 +32,12 @@ module _ (at ents : List ℕ) (v b e n : ℕ) (h : v < n) (size : length at ≡ 
       let k : In (getD ents i 0) (ring (held at ents) v) = rw is (rw (part-at ents b e i f g m) at a) in
       omega (arith, ring-says (held at ents) v t .below (getD ents i 0) k, held-length at ents)
 
-  module _ (P L : List ℕ) (k m c : ℕ) (ec : c ≡ count (mem P) (slice b e ents)) where
+  module _ (P : List ℕ) (c : ℕ) (ec : c ≡ count (mem P) (slice b e ents)) where
     two-is : twoPlaced (held at ents) P v ≡ leb 2 c
     unfolding twoPlaced
     two-is = rw (is, ec) refl
 
-    pub rule-few : c < 2 → Few ≡ fitOf (twoPlaced (held at ents) P v) (oneRun (held at ents) P v) (ltb k m) (oneLater (held at ents) L v)
+    pub rule-few : c < 2 → Few ≡ fitOf (twoPlaced (held at ents) P v) (oneRun (held at ents) P v)
     rule-few few = rw (two-is, lt-leb 2 c few) refl
 
     module _ (enough : 2 ≤ c) (s : ℕ) (es : s ≡ starts P (around (slice b e ents))) where
@@ -50,20 +50,8 @@ module _ (at ents : List ℕ) (v b e n : ℕ) (h : v < n) (size : length at ≡ 
       one-no : 1 < s → oneRun (held at ents) P v ≡ false
       one-no more = is-false (oneRun (held at ents) P v) (λ t. omega (arith, es, rw is at (one-run-starts (held at ents) P v (is-true (oneRun (held at ents) P v) t))))
 
-      pub rule-broken : 1 < s → Broken ≡ fitOf (twoPlaced (held at ents) P v) (oneRun (held at ents) P v) (ltb k m) (oneLater (held at ents) L v)
+      pub rule-broken : 1 < s → Broken ≡ fitOf (twoPlaced (held at ents) P v) (oneRun (held at ents) P v)
       rule-broken more = rw (two-is, le-leb 2 c enough, one-no more) refl
 
-      module _ (whole : s ≤ 1) where
-        pub rule-end : m ≤ k → Good ≡ fitOf (twoPlaced (held at ents) P v) (oneRun (held at ents) P v) (ltb k m) (oneLater (held at ents) L v)
-        rule-end j = rw (two-is, le-leb 2 c enough, one-yes whole, le-ltb k m j) refl
-
-        module _ (below : k < m) (r : Bool) (er : r ≡ anyOf (mem L) (slice b e ents)) where
-          late-is : oneLater (held at ents) L v ≡ r
-          unfolding oneLater
-          late-is = rw is (sym er)
-
-          pub rule-good : r ≡ true → Good ≡ fitOf (twoPlaced (held at ents) P v) (oneRun (held at ents) P v) (ltb k m) (oneLater (held at ents) L v)
-          rule-good t = rw (two-is, le-leb 2 c enough, one-yes whole, lt-ltb k m below, late-is, t) refl
-
-          pub rule-last : r ≡ false → Last ≡ fitOf (twoPlaced (held at ents) P v) (oneRun (held at ents) P v) (ltb k m) (oneLater (held at ents) L v)
-          rule-last t = rw (two-is, le-leb 2 c enough, one-yes whole, lt-ltb k m below, late-is, t) refl
+      pub rule-good : s ≤ 1 → Good ≡ fitOf (twoPlaced (held at ents) P v) (oneRun (held at ents) P v)
+      rule-good whole = rw (two-is, le-leb 2 c enough, one-yes whole) refl

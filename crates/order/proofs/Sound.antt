@@ -1,5 +1,5 @@
--- The deciding theorem: lists and an order pass the tests of steps 7 to 14 exactly if they are a triangulated plane graph with a canonical
--- order. Nothing tests that the graph is connected: it follows from the order.
+-- The deciding theorem: lists and an order pass the tests of steps 7 to 13 exactly if they are a triangulated plane graph with a canonical
+-- order. Nothing tests that the graph is connected, nor that each post below n has a later neighbour: both follow from the order.
 use mathlib.Core.Path.{_≡_, refl, sym}
 use mathlib.Core.Logic.{inl, inr, _≢_}
 use mathlib.Core.Bool.{Bool, true, false, _||_}
@@ -13,7 +13,7 @@ use lib.Seq.{take-suc, take-length}
 use borrow.Author.Tests.{leb-false, lt-leb, le-ltb}
 use Rattle.words.specs.Numbers.{sumOf}
 use Rattle.words.specs.Lists.{In, Different, mem}
-use Rattle.words.specs.Positions.{post, earlier, later}
+use Rattle.words.specs.Positions.{post, earlier}
 use Rattle.words.proofs.Lists.{in-cases, all-there, once-length}
 use Rattle.words.proofs.Tests.{is-false, fails, neither, mem-in, in-mem, place-in, in-place, different-once, once-different}
 use Rattle.words.proofs.Positions.{take-in, earlier-in, post-new}
@@ -23,13 +23,13 @@ use Rattle.rings.specs.Plane.{Reached, Plane}
 use Rattle.rings.specs.Plane.Reached.{here, along}
 use Rattle.rings.proofs.Around.{After, follows-after, around-in}
 use Rattle.rings.proofs.Says.{Faces, says-ring, triangle-says, says-triangle, outer-says, says-outer, faces-tested, faces-plane, entry-below, entry-other, entry-returned, ring-once}
-use Rattle.order.specs.Order.{twoPlaced, oneRun, oneLater}
+use Rattle.order.specs.Order.{twoPlaced, oneRun}
 use Rattle.order.specs.Canonical.{Two, Canonical}
-use Rattle.order.proofs.Tests.{two-says, says-two, run-says, says-run, later-says, says-later}
-use Rattle.order.proofs.Growth.{Names}
+use Rattle.order.proofs.Tests.{two-says, says-two, run-says, says-run, later-says}
+use Rattle.order.proofs.Growth.{Names, never-refused-14}
 
--- the tests of steps 7 to 14, each passed
-pub record Passes (G : List (List ℕ)) (vs : List ℕ) : Type 0 where
+-- the tests of steps 7 to 11, each passed
+pub record Boarded (G : List (List ℕ)) (vs : List ℕ) : Type 0 where
   pub all : length vs ≡ length G
   pub entries : (k : ℕ) → 1 ≤ k → k ≤ length G → badEntry (length G) vs k ≡ false
   pub degrees : (u : ℕ) → u < length G → badDegree (length G) (map length G) u ≡ false
@@ -37,9 +37,12 @@ pub record Passes (G : List (List ℕ)) (vs : List ℕ) : Type 0 where
   pub rings : (u : ℕ) → u < length G → ringRule G u ≡ true
   pub triangles : (u : ℕ) → u < length G → triangleRule G u ≡ true
   pub outer : outerRule G (post vs 1) (post vs 2) (post vs (length G)) ≡ true
+
+-- and those of 12 and 13
+pub record Passes (G : List (List ℕ)) (vs : List ℕ) : Type 0 where
+  pub board : Boarded G vs
   pub two : (k : ℕ) → 3 ≤ k → k ≤ length G → twoPlaced G (earlier vs k) (post vs k) ≡ true
   pub run : (k : ℕ) → 3 ≤ k → k ≤ length G → oneRun G (earlier vs k) (post vs k) ≡ true
-  pub later : (k : ℕ) → 3 ≤ k → k < length G → oneLater G (later vs k) (post vs k) ≡ true
 
 -- ---- step 7: the order's entries are below n, and differ
 false-or : (x y : Bool) → x ≡ false → y ≡ false → x || y ≡ false
@@ -135,50 +138,61 @@ module _ (G : List (List ℕ)) (vs : List ℕ) where
       let now : (k : ℕ) → 1 ≤ k → k ≤ length vs → badEntry (length G) vs k ≡ false = λ k a b. good k a (omega arith) in
       record { all = n; below = order-below (length G) vs now; once = different-once vs (order-once (length G) vs now) }
 
-  pub passes-names : Passes G vs → Names (length G) vs
-  passes-names P = tested-names (P .all) (P .entries)
+  pub boarded-names : Boarded G vs → Names (length G) vs
+  boarded-names B = tested-names (B .all) (B .entries)
 
-  pub passes-faces : Passes G vs → Faces G
-  passes-faces P = faces-tested G (P .rings) (P .triangles)
+  pub boarded-faces : Boarded G vs → Faces G
+  boarded-faces B = faces-tested G (B .rings) (B .triangles)
 
-  pub passes-outer : Passes G vs → After G (post vs 2) (post vs 1) (post vs (length G))
-  passes-outer P = follows-after G (post vs 2) (post vs 1) (post vs (length G)) (outer-says G (post vs 1) (post vs 2) (post vs (length G)) (P .outer) .1)
+  pub boarded-outer : Boarded G vs → After G (post vs 2) (post vs 1) (post vs (length G))
+  boarded-outer B = follows-after G (post vs 2) (post vs 1) (post vs (length G)) (outer-says G (post vs 1) (post vs 2) (post vs (length G)) (B .outer) .1)
 
-  pub passes-canonical : Passes G vs → Canonical G vs
-  passes-canonical P =
-      let N = passes-names P in
-      let n : length vs ≡ length G = P .all in
-      record {
-        all = n;
-        below = N .below;
-        once = once-different vs (N .once);
-        two = λ k a b. two-says G vs k (post vs k) (ring-once G (passes-faces P) (post vs k) (N .below (post vs k) (place-in vs (k - 1) (omega arith)))) (P .two k a (omega arith));
-        run = λ k a b. run-says G vs k (post vs k) (omega arith) (P .run k a (omega arith));
-        later = λ k a b. later-says G vs k (post vs k) (P .later k a (omega arith));
-      }
-
-  pub passes-plane : Passes G vs → Plane G (post vs 1) (post vs 2) (post vs (length G))
-  passes-plane P =
-      let F = passes-faces P in
-      let N = passes-names P in
-      let o = outer-says G (post vs 1) (post vs 2) (post vs (length G)) (P .outer) in
-      let n : length vs ≡ length G = P .all in
+  -- a connected board is a triangulated plane graph
+  pub boarded-plane : Boarded G vs → ((u : ℕ) → u < length G → Reached G (post vs 1) u) → Plane G (post vs 1) (post vs 2) (post vs (length G))
+  boarded-plane B connected =
+      let F = boarded-faces B in
+      let o = outer-says G (post vs 1) (post vs 2) (post vs (length G)) (B .outer) in
       record {
         below = λ u v h. F .kept u h .below v;
         other = λ u v h. F .kept u h .other v;
         once = λ u h. F .kept u h .once;
         returned = λ u v h. F .kept u h .returned v;
-        triangle = λ u v w h. triangle-says G u (P .triangles u h) v w;
-        connected = λ u h.
-            let i = all-there (length G) vs (N .once) (N .below) (omega arith) u h in
-            reached-to G vs F (o .0) (passes-canonical P .two) (length vs) (omega arith) u (rw take-length i);
-        entries = P .total;
+        triangle = λ u v w h. triangle-says G u (B .triangles u h) v w;
+        connected = connected;
+        entries = B .total;
         bottom = o .0;
         outer = o .1;
       }
 
+  pub passes-canonical : Passes G vs → Canonical G vs
+  passes-canonical P =
+      let B = P .board in
+      let F = boarded-faces B in
+      let N = boarded-names B in
+      let n : length vs ≡ length G = B .all in
+      record {
+        all = n;
+        below = N .below;
+        once = once-different vs (N .once);
+        two = λ k a b. two-says G vs k (post vs k) (ring-once G F (post vs k) (N .below (post vs k) (place-in vs (k - 1) (omega arith)))) (P .two k a (omega arith));
+        run = λ k a b. run-says G vs k (post vs k) (omega arith) (P .run k a (omega arith));
+        later = λ k a b.
+            later-says G vs k (post vs k)
+            (never-refused-14 G vs F (boarded-outer B) N k a (omega arith) (λ j c d. (P .two j c (omega arith), P .run j c (omega arith))) (P .two k a (omega arith)));
+      }
+
+  -- every post can be reached: each is wired to an earlier one
+  pub passes-connected : Passes G vs → (u : ℕ) → u < length G → Reached G (post vs 1) u
+  passes-connected P u h =
+      let B = P .board in
+      let N = boarded-names B in
+      let n : length vs ≡ length G = B .all in
+      let o = outer-says G (post vs 1) (post vs 2) (post vs (length G)) (B .outer) in
+      let i = all-there (length G) vs (N .once) (N .below) (omega arith) u h in
+      reached-to G vs (boarded-faces B) (o .0) (passes-canonical P .two) (length vs) (omega arith) u (rw take-length i)
+
   pub passes-sound : Passes G vs → Plane G (post vs 1) (post vs 2) (post vs (length G)) × Canonical G vs
-  passes-sound P = (passes-plane P, passes-canonical P)
+  passes-sound P = (boarded-plane (P .board) (passes-connected P), passes-canonical P)
 
   pub sound-passes : Plane G (post vs 1) (post vs 2) (post vs (length G)) × Canonical G vs → Passes G vs
   sound-passes t =
@@ -187,16 +201,21 @@ module _ (G : List (List ℕ)) (vs : List ℕ) where
       let F = faces-plane G (post vs 1) (post vs 2) (post vs (length G)) P in
       let n : length vs ≡ length G = C .all in
       record {
-        all = n;
-        entries = λ k a b. says-position (length G) vs k (C .below (post vs k) (place-in vs (k - 1) (omega arith))) (post-new vs (different-once vs (C .once)) k a (omega arith));
-        degrees = λ u h. let x = some-near (post vs 1) u P h in says-degree G u (degree-least G u F (x .0) (x .1)) (degree-most G u F h);
-        total = P .entries;
-        rings = λ u h. says-ring G u (F .kept u h);
-        triangles = λ u h. says-triangle G u (λ v w. P .triangle u v w h);
-        outer = says-outer G (post vs 1) (post vs 2) (post vs (length G)) (P .bottom) (P .outer);
+        board =
+            record {
+              all = n;
+              entries = λ k a b.
+                  says-position (length G) vs k (C .below (post vs k) (place-in vs (k - 1) (omega arith))) (post-new vs (different-once vs (C .once)) k a (omega arith));
+              degrees = λ u h. let x = some-near (post vs 1) u P h in says-degree G u (degree-least G u F (x .0) (x .1)) (degree-most G u F h);
+              total = P .entries;
+              rings = λ u h. says-ring G u (F .kept u h);
+              triangles = λ u h. says-triangle G u (λ v w. P .triangle u v w h);
+              outer = says-outer G (post vs 1) (post vs 2) (post vs (length G)) (P .bottom) (P .outer);
+            };
         two = λ k a b. says-two G vs k (post vs k) (omega arith) (C .two k a (omega arith));
-        run = λ k a b. let W = C .two k a (omega arith) in says-run G vs k (post vs k) (omega arith) (some-length (ring G (post vs k)) (W .a) (W .near-a)) (C .run k a (omega arith));
-        later = λ k a b. let l = C .later k a (omega arith) in says-later G vs k (post vs k) (l .0) (l .1) (l .2);
+        run = λ k a b.
+            let W = C .two k a (omega arith) in
+            says-run G vs k (post vs k) (omega arith) (some-length (ring G (post vs k)) (W .a) (W .near-a)) (C .run k a (omega arith));
       }
     where
       some-length : (l : List ℕ) (a : ℕ) → In a l → 0 < length l

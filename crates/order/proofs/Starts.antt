@@ -25,7 +25,7 @@ module _ (placed : List ℕ) where
   starts-cut (x ∷ []) q Z = omega arith
   starts-cut (x ∷ y ∷ X) q Z = let e = starts-cut (y ∷ X) q Z in omega arith
 
-  starts-turn : (X Y : List ℕ) → starts placed (around (X ++ Y)) ≡ starts placed (around (Y ++ X))
+  pub starts-turn : (X Y : List ℕ) → starts placed (around (X ++ Y)) ≡ starts placed (around (Y ++ X))
   starts-turn [] Y = rw append-nil
   starts-turn (x ∷ X) [] = rw append-nil
   starts-turn (x ∷ X) (y ∷ Y) =
@@ -44,7 +44,7 @@ module _ (placed : List ℕ) where
       go false true n e = absurd (omega arith)
       go false false n e = (λ t. t, omega arith)
 
-  placed-on : (x : ℕ) (l : List ℕ) → T (mem placed x) → starts placed (x ∷ l) ≡ starts placed l
+  pub placed-on : (x : ℕ) (l : List ℕ) → T (mem placed x) → starts placed (x ∷ l) ≡ starts placed l
   unfolding starts
   placed-on x [] h = refl
   placed-on x (y ∷ l) h = go (mem placed x) h
@@ -82,7 +82,7 @@ module _ (placed : List ℕ) where
       go true f t k = f tt ∙ k t
       go false f t k = none-starts (x ∷ l) t
 
-  starts-snoc : (l : List ℕ) (z : ℕ) → starts placed (l ++ z ∷ []) ≤ starts placed l + 1
+  pub starts-snoc : (l : List ℕ) (z : ℕ) → starts placed (l ++ z ∷ []) ≤ starts placed l + 1
   unfolding starts
   starts-snoc [] z = omega arith
   starts-snoc (x ∷ []) z = go (not (mem placed x) && mem placed z)

@@ -13,8 +13,8 @@ use Rattle.words.specs.Lists.{In, mem, allOf}
 use Rattle.words.specs.Positions.{post, earlier, later, Later}
 use Rattle.words.proofs.First.{some-true, some-found}
 use Rattle.words.proofs.Lists.{Once, in-right, in-turn}
-use Rattle.words.proofs.Tests.{holds, is-true, both, join, mem-in, in-mem, any-says, says-any, none-says, says-none, count-two, two-count}
-use Rattle.words.proofs.Positions.{earlier-in, in-earlier, later-in, in-later}
+use Rattle.words.proofs.Tests.{holds, is-true, both, join, mem-in, in-mem, any-says, none-says, says-none, count-two, two-count}
+use Rattle.words.proofs.Positions.{earlier-in, in-earlier, in-later}
 use Rattle.rings.specs.Rings.{ring}
 use Rattle.order.specs.Order.{twoPlaced, from, lead, rest, leads, oneRun, oneLater, begins}
 use Rattle.order.specs.Canonical.{Two, OneRun}
@@ -157,7 +157,3 @@ module _ (G : List (List ℕ)) (vs : List ℕ) (k v : ℕ) where
   pub later-says : oneLater G (later vs k) v ≡ true → (a : ℕ) × In a (ring G v) × Later vs k a
   unfolding oneLater
   later-says t = let r = any-says (mem (later vs k)) (ring G v) (holds _ t) in (r .0, r .1, in-later vs k (r .0) (mem-in (later vs k) (r .0) (r .2)))
-
-  pub says-later : (a : ℕ) → In a (ring G v) → Later vs k a → oneLater G (later vs k) v ≡ true
-  unfolding oneLater
-  says-later a h l = is-true _ (says-any (mem (later vs k)) (ring G v) a h (in-mem (later vs k) a (later-in vs k a l)))

@@ -7,7 +7,7 @@ use lib.ListN.{length, getD}
 use Rattle.words.specs.Lists.{mem}
 use Rattle.words.specs.Positions.{post}
 use Rattle.order.specs.declared.Fit.{Fit}
-use Rattle.order.specs.declared.Fit.the-variants.{Good, Few, Broken, Last}
+use Rattle.order.specs.declared.Fit.the-variants.{Good, Few, Broken}
 
 -- the position of each name
 pub record Ranked (vs rank : List ℕ) : Type 0 where
@@ -25,6 +25,6 @@ starts placed [] = 0
 starts placed (x ∷ []) = 0
 starts placed (x ∷ y ∷ l) = cond (not (mem placed x) && mem placed y) 1 0 + starts placed (y ∷ l)
 
--- what 12, 13 and 14 find in a position: two earlier neighbours? one run? below n? a later neighbour?
-abbrev pub fitOf : Bool → Bool → Bool → Bool → Fit
-fitOf two one below late = cond two (cond one (cond (below && not late) Last Good) Broken) Few
+-- what 12 and 13 find in a position: two earlier neighbours? one run?
+abbrev pub fitOf : Bool → Bool → Fit
+fitOf two one = cond two (cond one Good Broken) Few

@@ -1,25 +1,24 @@
-// The order of fitting: the position of each name, and the rule at each position (steps 12 to 14).
+// The order of fitting: the position of each name, and the rule at each position (steps 12 and 13).
 ghost use mathlib.Core.Path.{_≡_};
 ghost use mathlib.Core.Bool.{true, false, not, cond, _&&_};
 ghost use Prim.Native.Nat.{ℕ, _+_, _-_, _≤_, _<_};
 ghost use lib.Dec.{ltb};
 ghost use lib.ListN.{length, getD};
 ghost use lib.Seq.{slice};
-ghost use Rattle.words.specs.Lists.{mem, anyOf, count};
-ghost use Rattle.words.specs.Positions.{post, earlier, later};
+ghost use Rattle.words.specs.Lists.{mem, count};
+ghost use Rattle.words.specs.Positions.{post, earlier};
 ghost use Rattle.block.specs.Layout.{limit};
 ghost use Rattle.block.specs.Block.{badEntry};
 ghost use Rattle.rings.specs.Rings.{around, ringRule};
 ghost use Rattle.rings.specs.Held.{held, Cuts};
-ghost use Rattle.order.specs.Order.{twoPlaced, oneRun, oneLater};
+ghost use Rattle.order.specs.Order.{twoPlaced, oneRun};
 ghost use Rattle.order.specs.Held.{Ranked, Names, starts, fitOf};
 
-// What the order's rule finds in a position: nothing amiss; fewer than two earlier neighbours; they aren't one run; no later neighbour.
+// What the order's rule finds in a position: nothing amiss; fewer than two earlier neighbours; they aren't one run.
 pub enum Fit {
     Good,
     Few,
     Broken,
-    Last,
 }
 
 // rank[a] becomes the position of the name a.
@@ -89,25 +88,10 @@ fn count_starts(ents: &[u16], b: usize, e: usize, vs: &[u16], rank: &[u16], k: u
     c
 }
 
-// One of the entries from b to e stands in a position after k.
-fn some_after(ents: &[u16], b: usize, e: usize, vs: &[u16], rank: &[u16], k: usize) -> bool
-    requires { ⌜ (b ≤ e) × (e ≤ length (now ents)) × Ranked (now vs) (now rank) × Names (now ents) b e (length (now vs)) × (k ≤ length (now vs)) × (length (now vs) ≤ limit) ⌝ }
-    ensures { λ r. ⌜ r ≡ anyOf (mem (later (now (vs .entry)) k)) (slice b e (now (ents .entry))) ⌝ }
-{
-    let mut i = b;
-    while i < e {
-        if !is_before(rank, ents[i], k + 1) {
-            return true;
-        }
-        i += 1;
-    }
-    false
-}
-
 // What the order's rule finds in position k.
 pub fn rule_at(ents: &[u16], at: &[u16], vs: &[u16], rank: &[u16], k: usize) -> Fit
-    requires { ⌜ Cuts (now at) (now ents) × (length (now at) ≡ length (now vs) + 1) × Ranked (now vs) (now rank) × ((u : ℕ) → u < length (now vs) → ringRule (held (now at) (now ents)) u ≡ true) × (1 ≤ k) × (k ≤ length (now vs)) × (length (now vs) ≤ limit) × (post (now vs) k < length (now vs)) ⌝ }
-    ensures { λ r. ⌜ r ≡ fitOf (twoPlaced (held (now (at .entry)) (now (ents .entry))) (earlier (now (vs .entry)) k) (post (now (vs .entry)) k)) (oneRun (held (now (at .entry)) (now (ents .entry))) (earlier (now (vs .entry)) k) (post (now (vs .entry)) k)) (ltb k (length (now (vs .entry)))) (oneLater (held (now (at .entry)) (now (ents .entry))) (later (now (vs .entry)) k) (post (now (vs .entry)) k)) ⌝ }
+    requires { ⌜ Cuts (now at) (now ents) × (length (now at) ≡ length (now vs) + 1) × Ranked (now vs) (now rank) × ((u : ℕ) → u < length (now vs) → ringRule (held (now at) (now ents)) u ≡ true) × (1 ≤ k) × (k ≤ length (now vs)) × (post (now vs) k < length (now vs)) ⌝ }
+    ensures { λ r. ⌜ r ≡ fitOf (twoPlaced (held (now (at .entry)) (now (ents .entry))) (earlier (now (vs .entry)) k) (post (now (vs .entry)) k)) (oneRun (held (now (at .entry)) (now (ents .entry))) (earlier (now (vs .entry)) k) (post (now (vs .entry)) k)) ⌝ }
 {
     let v = words::number(vs[k - 1]);
     let b = words::number(at[v]);
@@ -118,11 +102,5 @@ pub fn rule_at(ents: &[u16], at: &[u16], vs: &[u16], rank: &[u16], k: usize) -> 
     if 1 < count_starts(ents, b, e, vs, rank, k) {
         return Fit::Broken;
     }
-    if vs.len() <= k {
-        return Fit::Good;
-    }
-    if some_after(ents, b, e, vs, rank, k) {
-        return Fit::Good;
-    }
-    Fit::Last
+    Fit::Good
 }

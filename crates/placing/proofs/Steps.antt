@@ -20,7 +20,7 @@ use Rattle.rings.proofs.Says.{entry-other, entry-returned}
 use Rattle.order.specs.Order.{run}
 use Rattle.order.proofs.Contour.{Run, Contour}
 use Rattle.order.proofs.Growth.{Grown, grow-at, start-at, run-near, run-whole}
-use Rattle.order.proofs.Sound.{Passes, passes-names, passes-faces, passes-outer}
+use Rattle.order.proofs.Sound.{Passes, boarded-names, boarded-faces, boarded-outer}
 use Rattle.placing.specs.Stages.{Stage, third, upTo, onFrom, inner, placeOver, place, placeAll, stage}
 
 -- ---- a contour cut at the ends of a run
@@ -153,11 +153,11 @@ module _ (G : List (List ℕ)) (vs : List ℕ) (A : Passes G vs) where
   -- the step to the post in position k
   step : (k : ℕ) → 3 ≤ k → k ≤ length G → (t : Stage) → t .placed ≡ earlier vs k → Contour (After G) (post vs 1) (post vs 2) (t .placed) (t .contour) → Step G t (post vs k)
   step k h i t e C =
-      let n : length vs ≡ length G = A .all in
+      let n : length vs ≡ length G = A .board .all in
       go (subst⁻¹ (λ (l : List ℕ). Grown G (post vs 1) (post vs 2) l (t .contour) (post vs k)) e
-      (grow-at G vs (passes-faces G vs A) (passes-outer G vs A) (passes-names G vs A) k h i (t .contour)
+      (grow-at G vs (boarded-faces G vs (A .board)) (boarded-outer G vs (A .board)) (boarded-names G vs (A .board)) k h i (t .contour)
       (subst (λ (l : List ℕ). Contour (After G) (post vs 1) (post vs 2) l (t .contour)) e C) (A .two k h i) (A .run k h i)))
-      (λ j. post-new vs (passes-names G vs A .once) k (omega arith) (omega arith) (subst (In (post vs k)) e j))
+      (λ j. post-new vs (boarded-names G vs (A .board) .once) k (omega arith) (omega arith) (subst (In (post vs k)) e j))
       (ap (λ (l : List ℕ). post l 1) e ∙ getD-take (k - 1) vs 0 0 (omega arith))
       (ap (λ (l : List ℕ). post l 2) e ∙ getD-take (k - 1) vs 1 0 (omega arith))
     where
@@ -166,8 +166,8 @@ module _ (G : List (List ℕ)) (vs : List ℕ) (A : Passes G vs) where
 
       go : Grown G (post vs 1) (post vs 2) (t .placed) (t .contour) v → ¬ (In v (t .placed)) → post (t .placed) 1 ≡ post vs 1 → post (t .placed) 2 ≡ post vs 2 → Step G t v
       go g new e1 e2 =
-          let F = passes-faces G vs A in
-          let all = run-whole G F (post vs 1) (post vs 2) (post vs (length G)) (passes-outer G vs A) (t .placed) (t .contour) v g new in
+          let F = boarded-faces G vs (A .board) in
+          let all = run-whole G F (post vs 1) (post vs 2) (post vs (length G)) (boarded-outer G vs (A .board)) (t .placed) (t .contour) v g new in
           let a = place-contour G t v (g .X) (g .M) (g .Y) (g .p) (g .q) (g .run-is) (g .before) (C .once) in
           record {
             X = g .X;
@@ -195,15 +195,15 @@ module _ (G : List (List ℕ)) (vs : List ℕ) (A : Passes G vs) where
 
   third-step : 3 ≤ length G → Grown G (post vs 1) (post vs 2) (earlier vs 3) (post vs 1 ∷ post vs 2 ∷ []) (post vs 3)
   third-step h =
-      let F = passes-faces G vs A in
-      let o = passes-outer G vs A in
-      let N = passes-names G vs A in
+      let F = boarded-faces G vs (A .board) in
+      let o = boarded-outer G vs (A .board) in
+      let N = boarded-names G vs (A .board) in
       grow-at G vs F o N 3 (omega arith) h (post vs 1 ∷ post vs 2 ∷ []) (start-at G vs F o N (omega arith)) (A .two 3 (omega arith) h) (A .run 3 (omega arith) h)
 
   -- stage 3's contour is v1, v3, v2
   pub third-contour : 3 ≤ length G → Contour (After G) (post vs 1) (post vs 2) (take 3 vs) (post vs 1 ∷ post vs 3 ∷ post vs 2 ∷ [])
   third-contour h =
-      let n : length vs ≡ length G = A .all in
+      let n : length vs ≡ length G = A .board .all in
       let g = third-step h in
       rw (earlier-next vs 3 (omega arith) (omega arith))
       (subst (Contour (After G) (post vs 1) (post vs 2) (earlier vs 3 ++ post vs 3 ∷ [])) (two-long (g .X) (g .M) (g .Y) (post vs 1) (post vs 2) (post vs 3) (g .p) (g .q) (g .before)) (g .now))
@@ -211,7 +211,7 @@ module _ (G : List (List ℕ)) (vs : List ℕ) (A : Passes G vs) where
   -- the step from a stage with its contour
   step-from : (k : ℕ) → 3 ≤ k → k < length G → Contour (After G) (post vs 1) (post vs 2) (take k vs) (stage G (take k vs) .contour) → Step G (stage G (take k vs)) (post vs (k + 1))
   step-from k h i C =
-      let n : length vs ≡ length G = A .all in
+      let n : length vs ≡ length G = A .board .all in
       let s : k ≡ k + 1 - 1 = omega arith in
       let e = stage-placed G vs k h (omega arith) in
       step (k + 1) (omega arith) (omega arith) (stage G (take k vs)) (e ∙ ap (λ (j : ℕ). take j vs) s)
@@ -219,7 +219,7 @@ module _ (G : List (List ℕ)) (vs : List ℕ) (A : Passes G vs) where
 
   stage-now : (k : ℕ) → 3 ≤ k → k < length G → Step G (stage G (take k vs)) (post vs (k + 1)) → Contour (After G) (post vs 1) (post vs 2) (take (k + 1) vs) (stage G (take (k + 1) vs) .contour)
   stage-now k h i s =
-      let n : length vs ≡ length G = A .all in
+      let n : length vs ≡ length G = A .board .all in
       let e = stage-placed G vs k h (omega arith) in
       let C = at-ends G (post vs 1) (post vs 2) _ _ (place G (stage G (take k vs)) (post vs (k + 1)) .placed) (place G (stage G (take k vs)) (post vs (k + 1)) .contour)
       (sym (ap (λ (l : List ℕ). post l 1) e ∙ getD-take k vs 0 0 (omega arith)))
@@ -231,7 +231,7 @@ module _ (G : List (List ℕ)) (vs : List ℕ) (A : Passes G vs) where
   pub contours : (k : ℕ) → 3 ≤ k → k ≤ length G → Contour (After G) (post vs 1) (post vs 2) (take k vs) (stage G (take k vs) .contour)
   unfolding third
   contours k h i =
-      let n : length vs ≡ length G = A .all in
+      let n : length vs ≡ length G = A .board .all in
       from-three (λ k. Contour (After G) (post vs 1) (post vs 2) (take k vs) (stage G (take k vs) .contour)) (length G)
       (rw (stage-third G vs (omega arith)) (third-contour (omega arith))) (λ k h i C. stage-now k h i (step-from k h i C)) k h i
 
@@ -242,7 +242,7 @@ module _ (G : List (List ℕ)) (vs : List ℕ) (A : Passes G vs) where
   pub at-each-stage : (P : Stage → Type 0) → P (third (post vs 1) (post vs 2) (post vs 3)) → ((t : Stage) (v : ℕ) → Step G t v → P t → P (place G t v))
       → (k : ℕ) → 3 ≤ k → k ≤ length vs → P (stage G (take k vs))
   at-each-stage P base f k h i =
-      let n : length vs ≡ length G = A .all in
+      let n : length vs ≡ length G = A .board .all in
       from-three (λ k. P (stage G (take k vs))) (length vs) (rw (stage-third G vs (omega arith)) base)
       (λ k h i r. subst⁻¹ P (stage-next G vs k h i) (f (stage G (take k vs)) (post vs (k + 1)) (step-at k h (omega arith)) r)) k h i
 

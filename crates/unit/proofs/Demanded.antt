@@ -1,24 +1,21 @@
 -- The three demands, proved of the unit that the paper describes; and that no other replies meet them.
-use Prim.Native.Nat.{ℕ, _+_, _*_, _-_}
+use Prim.Native.Nat.{ℕ, _*_}
 use mathlib.Core.Path.{_≡_, refl, sym, ap, _∙_, subst}
-use mathlib.Core.List.{List, _++_, flatMap}
+use mathlib.Core.List.{List, _++_}
 use lib.ListN.{length, drop}
-use Rattle.words.specs.First.{numbers}
 use Rattle.words.specs.Positions.{post}
 use Rattle.block.specs.Block.{posts, order, lists, Framed}
 use Rattle.rings.specs.Plane.{Plane}
 use Rattle.order.specs.Canonical.{Canonical}
 use Rattle.order.proofs.Sound.{passes-sound, sound-passes}
 use Rattle.placing.specs.Records.{recordOf, entriesOf}
-use Rattle.lamp.specs.Lamp.{blockRows, positionRows, checkRows, sheetRows, postRows}
+use Rattle.lamp.specs.Lamp.{blockRows, orderRows, checkRows, sheetRows, postRows}
 use Rattle.lamp.specs.Given.{Reply, accepted, refused, checkReply, NoneApplies}
 use Rattle.unit.specs.Replies.{stageAt, sheetReply, bufferFor, bufferAfter, postReply}
 use Rattle.unit.specs.Demands.{Services, thePaper, Accepted, Refused, Demand1, Sound, Demand2, Demand3}
-use Rattle.lamp.specs.Held.{headRows}
 use Rattle.lamp.proofs.Given.{given-none, given-says, given-fixed, fixed-one, not-both}
-use Rattle.lamp.proofs.Heads.{framed}
 use Rattle.lamp.proofs.Sounds.{accepted-is}
-use Rattle.lamp.proofs.Accepts.{none-left, lists-count, none-passes, passes-none}
+use Rattle.lamp.proofs.Accepts.{none-left, lists-count, none-framed, none-passes, passes-none}
 use Rattle.unit.proofs.Third.{demand-3}
 
 -- a reply is an acceptance or a refusal
@@ -51,9 +48,13 @@ module _ (s : List ℕ) where
   unfolding checkReply
   accepted-none n e = given-says s posts (checkRows s) n e
 
+  pub accepted-posts : (n : ℕ) → checkReply s ≡ accepted n → n ≡ posts s
+  unfolding checkReply
+  accepted-posts n e = accepted-is s posts (checkRows s) n e
+
   pub accepted-framed : (n : ℕ) → checkReply s ≡ accepted n → Framed s
-  unfolding checkRows blockRows
-  accepted-framed n e = framed s (none-left headRows (drop 6 blockRows ++ flatMap positionRows (numbers 3 (posts s - 2))) s (accepted-none n e))
+  unfolding checkRows
+  accepted-framed n e = none-framed s (none-left blockRows (orderRows s) s (accepted-none n e))
 
   pub accepted-sound : (n : ℕ) → checkReply s ≡ accepted n → Sound s
   accepted-sound n e =
@@ -64,9 +65,10 @@ module _ (s : List ℕ) where
   unfolding checkReply
   sound-accepted F S =
       given-none s posts (checkRows s)
-      (passes-none s F
+      (passes-none s
       (sound-passes (lists s) (order s)
-      (subst (λ (m : ℕ). Plane (lists s) (post (order s) 1) (post (order s) 2) (post (order s) m) × Canonical (lists s) (order s)) (sym (lists-count s)) S)))
+      (subst (λ (m : ℕ). Plane (lists s) (post (order s) 1) (post (order s) 2) (post (order s) m) × Canonical (lists s) (order s)) (sym (lists-count s)) S))
+      F)
 
 stands : (r : Reply ℕ) (s : List ℕ) (k : ℕ) (b : List ℕ) → Accepted r → ((a : ℕ) → r ≡ accepted a → a ≡ 2 * k) → bufferFor r s k b ≡ entriesOf (stageAt k s) ++ drop (2 * k) b
 unfolding bufferFor
@@ -86,11 +88,10 @@ second-demand =
 -- ---- 3
 
 pub third-demand : Demand3 thePaper
-unfolding checkReply
 third-demand =
     demand-3 thePaper
     (λ s n e.
-    (none-passes s (accepted-none s n e), accepted-is s posts (checkRows s) n e, sym (lists-count s), accepted-framed s n e .posts-least))
+    (none-passes s (accepted-none s n e), accepted-posts s n e, sym (lists-count s), accepted-framed s n e .posts-least))
 
 -- ---- how tight the services are held: two units that meet demands 1 and 2 reply alike, and leave the same buffer
 

@@ -13,7 +13,7 @@ use Rattle.lamp.specs.Given.{accepted}
 use Rattle.unit.specs.Replies.{stageAt}
 use Rattle.unit.specs.Demands.{Services, places, Placed, Moves, Demand3}
 
--- a block's order passes the tests of steps 7 to 14, and its n is the number of its lists
+-- a block's order passes the tests of steps 7 to 13, and its n is the number of its lists
 pub record Passing (s : List ℕ) : Type 0 where
   pub passes : Passes (lists s) (order s)
   pub all : posts s ≡ length (lists s)

@@ -3,14 +3,14 @@ use Rattle.lamp.proofs.position.Statement.{statement}
 use Rattle.lamp.proofs.position.Tie as tie
 use mathlib.Core.Path.{_≡_, sym, ap, _∙_}
 use Rattle.lamp.proofs.Rows.{answerAt, position-found, rule-needs}
-use Rattle.order.specs.declared.Fit.the-variants.{Good, Few, Broken, Last}
+use Rattle.order.specs.declared.Fit.the-variants.{Good, Few, Broken}
 
 rule-at-requires : tie.Need-rule-at-requires
 rule-at-requires c κs =
     let entry = c .before .before .before .before .before in
     let L = entry .pre .0 in
     let R = rule-needs (entry .args .s .now) (entry .args .vs .now) (entry .args .at .now) (entry .args .ents .now) L (entry .pre .2) in
-    (L .cuts, L .places, entry .pre .1, R .0, entry .pre .3, entry .pre .4, L .headed .most, R .1 (entry .args .k) (entry .pre .3) (entry .pre .4))
+    (L .cuts, L .places, entry .pre .1, R .0, entry .pre .3, entry .pre .4, R .1 (entry .args .k) (entry .pre .3) (entry .pre .4))
 
 enum-told : tie.Need-enum-told
 enum-told c = search needs
@@ -30,12 +30,6 @@ enum-told-3 c = search needs
 cast-t12 : tie.Need-cast-t12
 cast-t12 c = search needs
 
-enum-told-4 : tie.Need-enum-told-4
-enum-told-4 c = search needs
-
-cast-t14 : tie.Need-cast-t14
-cast-t14 c = search needs
-
 returns : tie.Need-returns
 returns c =
     let entry = c .before .before .before .before .before .before .before .before in
@@ -54,12 +48,6 @@ returns-3 c =
     let q : c .before .before .rule-at .result ≡ Broken = c .enum-told3 .given .1 in
     sym (ap (answerAt (entry .args .k)) q) ∙ position-found (entry .args .s .now) (entry .args .vs .now) (entry .args .at .now) (entry .args .ents .now) (entry .pre .0) (entry .args .k) (c .before .before .rule-at .result) (c .before .before .rule-at .ensures)
 
-returns-4 : tie.Need-returns-4
-returns-4 c =
-    let entry = c .before .before .before .before .before .before .before .before in
-    let q : c .before .before .rule-at .result ≡ Last = c .enum-told4 .given .1 in
-    sym (ap (answerAt (entry .args .k)) q) ∙ position-found (entry .args .s .now) (entry .args .vs .now) (entry .args .at .now) (entry .args .ents .now) (entry .pre .0) (entry .args .k) (c .before .before .rule-at .result) (c .before .before .rule-at .ensures)
-
 pub position-spec : {M : Type 1} → statement M
 position-spec =
     tie.close
@@ -71,9 +59,6 @@ position-spec =
     cast-t10
     enum-told-3
     cast-t12
-    enum-told-4
-    cast-t14
     returns
     returns-2
-    returns-3
-    returns-4)
+    returns-3)
