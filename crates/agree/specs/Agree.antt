@@ -1,0 +1,33 @@
+-- Of blocks: the paper's rule per position and document 002's conditions ask the same of an order.
+use Prim.Native.Nat.{ℕ, _≤_, _<_}
+use mathlib.Core.Logic.{_↔_}
+use mathlib.Core.List.{List}
+use lib.ListN.{take}
+use Rattle.words.specs.Positions.{post}
+use Rattle.block.specs.Block.{posts, order, lists}
+use Rattle.rings.specs.Plane.{Reached}
+use Rattle.placing.specs.Stages.{stage}
+use Rattle.lamp.specs.Lamp.{blockRows, orderRows}
+use Rattle.lamp.specs.Given.{NoneApplies}
+use Rattle.growth.specs.Co.{Co, CoOver}
+
+-- every post can be reached from v1
+abbrev pub Connected : List ℕ → Type 0
+Connected s = (u : ℕ) → u < posts s → Reached (lists s) (post (order s) 1) u
+
+-- co1 to co3 hold at every stage
+abbrev pub CoStages : List ℕ → Type 0
+CoStages s = (k : ℕ) → 3 ≤ k → k ≤ posts s → Co (lists s) (order s) k
+
+-- the same over the contours with which the paper places the posts: at every stage that list writes C_k
+abbrev pub CoContours : List ℕ → Type 0
+CoContours s = (k : ℕ) → 3 ≤ k → k ≤ posts s → CoOver (lists s) (order s) k (stage (lists s) (take k (order s)) .contour)
+
+-- For connected blocks passing 1 to 11 the rule per position holds exactly when co1 to co3 hold at every stage,
+pub record SameRule : Type 0 where
+  pub exactly : (s : List ℕ) → NoneApplies blockRows s → Connected s → NoneApplies (orderRows s) s ↔ CoStages s
+  -- and exactly when they hold written over the stages' own contours.
+  pub over-contours : (s : List ℕ) → NoneApplies blockRows s → Connected s → NoneApplies (orderRows s) s ↔ CoContours s
+  -- Nothing needs to be known of connectedness: the rule gives it, and co1 at stage n does.
+  pub connected-by-rule : (s : List ℕ) → NoneApplies blockRows s → NoneApplies (orderRows s) s → Connected s
+  pub connected-by-co : (s : List ℕ) → NoneApplies blockRows s → CoStages s → Connected s

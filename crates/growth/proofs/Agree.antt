@@ -1,0 +1,46 @@
+-- The rule of 01 and the conditions of 002 agree: in a triangulated plane graph an order is canonical by the rule per position exactly if co1 to co3
+-- hold at every stage; and C_k is then a list from v1 to v2, over which they can be written.
+use mathlib.Core.Logic.{_↔_, inr}
+use mathlib.Core.List.{List, [], _∷_, _++_}
+use mathlib.Core.Path.{_≡_, ap, _∙_}
+use Prim.Native.Nat.{ℕ, _≤_}
+use lib.ListN.{length}
+use Rattle.words.specs.Positions.{post}
+use Rattle.rings.specs.Rings.{around}
+use Rattle.rings.specs.Plane.{Plane}
+use Rattle.rings.proofs.Around.{around-cut}
+use Rattle.order.specs.Canonical.{Canonical}
+use Rattle.growth.specs.Co.{ContourList, Co, CoOver, CoOrder}
+use Rattle.growth.proofs.FromStages.{from-stages}
+use Rattle.growth.proofs.ToStages.{to-stages}
+use Rattle.growth.proofs.Contours.{on-list, stage-contour}
+
+module _ (G : List (List ℕ)) (vs : List ℕ) (k : ℕ) (K : List ℕ) where
+  -- co1 to co3 over a contour that is written as a list, and by its wires
+  pub over-contour : ContourList G vs k K → Co G vs k → CoOver G vs k K
+  over-contour W c = record {
+    contour = W;
+    two-connected = c .two-connected;
+    triangulated = c .triangulated;
+    outside = c .outside;
+    near = λ l a i j. on-list G vs k K W a .0 (c .near l a i j);
+  }
+
+  pub by-wires : CoOver G vs k K → Co G vs k
+  by-wires c = record {
+    two-connected = c .two-connected;
+    triangulated = c .triangulated;
+    base = inr (c .contour .wires (post vs 2) (post vs 1) .1 (post vs 1 ∷ c .contour .between, [], closed));
+    outside = c .outside;
+    near = λ l a i j. on-list G vs k K (c .contour) a .1 (c .near l a i j);
+  }
+    where
+      closed : around K ≡ (post vs 1 ∷ c .contour .between) ++ post vs 2 ∷ post vs 1 ∷ []
+      closed = ap around (c .contour .is) ∙ around-cut (post vs 1) (c .contour .between) (post vs 2 ∷ [])
+
+module _ (G : List (List ℕ)) (vs : List ℕ) (P : Plane G (post vs 1) (post vs 2) (post vs (length G))) where
+  pub agree : Canonical G vs ↔ CoOrder G vs
+  agree = (to-stages G vs P, from-stages G vs P)
+
+  pub contours : CoOrder G vs → (k : ℕ) → 3 ≤ k → k ≤ length vs → (K : List ℕ) × ContourList G vs k K
+  contours O = stage-contour G vs P (from-stages G vs P O)

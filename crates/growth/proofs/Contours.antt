@@ -1,0 +1,194 @@
+-- C_k is the contour of the order's laws: a list from v1 to v2 whose wires, closed from v2 to v1, are exactly those that border the exterior face.
+use mathlib.Core.Path.{_≡_, refl, sym, ap, _∙_, subst}
+use mathlib.Core.Logic.{inl, inr, _≢_, _↔_}
+use mathlib.Core.List.{List, [], _∷_, _++_, append-assoc}
+use Prim.Native.Nat.{ℕ, _≤_, _<_}
+use native.Mathlib.Omega.{arith}
+use native.Mathlib.Decide.{ℕ-discrete}
+use lib.ListN.{length, take}
+use Rattle.words.specs.Lists.{In, lastOf}
+use Rattle.words.specs.Positions.{post}
+use Rattle.words.proofs.Lists.{Head, Adj, Once, adj-cases, adj-turn, once-next, first-alone, last-alone, last-append, head-one}
+use Rattle.words.proofs.Tests.{different-once, once-different}
+use Rattle.rings.specs.Rings.{ring, around}
+use Rattle.rings.specs.Plane.{Plane}
+use Rattle.rings.proofs.Around.{After, adj-cut, cut-adj, follows-after, around-in, around-next, around-cut}
+use Rattle.rings.proofs.Says.{Faces, faces-plane, entry-other, entry-returned}
+use Rattle.order.specs.Canonical.{Canonical}
+use Rattle.order.proofs.Contour.{Run, Contour}
+use Rattle.order.proofs.Runs.{two-ends}
+use Rattle.order.proofs.Growth.{Names, contour-at}
+use Rattle.order.proofs.Sound.{Passes, sound-passes}
+use Rattle.growth.specs.Co.{Face, ContourWire, ContourPost, ContourList}
+use Rattle.growth.specs.Co.Face.{same, turn, cross}
+use Rattle.growth.proofs.Named.{post-in, post-one, not-yet}
+use Rattle.growth.proofs.ToStages.{sides, sides-only, leave-at, leave-wire, base-wire}
+
+-- a post is on C_k if it is in the list, and only then
+pub on-list : (G : List (List ℕ)) (vs : List ℕ) (k : ℕ) (K : List ℕ) → ContourList G vs k K → (a : ℕ) → ContourPost G vs k a ↔ In a K
+on-list G vs k K W a = (to, from)
+  where
+    to : ContourPost G vs k a → In a K
+    to (b, inl w) = let t = W .wires a b .0 w in around-in K a b (cut-adj (around K) (t .0) a b (t .1) (t .2)) .0
+    to (b, inr w) = let t = W .wires b a .0 w in around-in K b a (cut-adj (around K) (t .0) b a (t .1) (t .2)) .1
+
+    from : In a K → ContourPost G vs k a
+    from i = let b = around-next K a i in (b .0, inl (W .wires a (b .0) .1 (adj-cut (around K) a (b .0) (b .1))))
+
+-- while vn waits, every triangle of the exterior face has a waiting post
+module _ (G : List (List ℕ)) (A : Faces G) (placed : List ℕ) (v1 v2 vn : ℕ) (m : ¬ (In vn placed)) where
+  pub exterior-waits : {u v w : ℕ} → Face G placed v2 v1 vn u v w → ¬ (In u placed × In v placed × In w placed)
+  exterior-waits same t = m (t .2)
+  exterior-waits (turn f) t = exterior-waits f (t .2, t .0, t .1)
+  exterior-waits (cross {u} {v} {w} {x} f nw g) t = nw (t .1, t .0, entry-returned G A v u (around-in (ring G v) u x (follows-after G v u x g) .0))
+
+-- the run of vn, from v1 to v2, is the whole contour
+module _ (F : ℕ → ℕ → ℕ → Type 0) (v1 v2 v : ℕ) (done : List ℕ) (p : ℕ) (M : List ℕ) (q : ℕ) (X Y : List ℕ) (U : Run F done v p M q) (C : Contour F v1 v2 done (X ++ p ∷ (M ++ q ∷ Y)))
+    (cut : ¬ (Adj (p ∷ (M ++ q ∷ [])) v2 v1)) (f : F v v2 v1) (i1 : In v1 done) (i2 : In v2 done) where
+  ends : (q ≡ v2) × (p ≡ v1)
+  ends = adj-cases v2 v1 (p ∷ M) q (p ∷ []) (λ h. absurd (cut h)) (elim [ inl e ↦ e | inr i ↦ absurd (elim i [ inl e ↦ e .1 | inr j ↦ j ]) ]) (U .inner v2 v1 f i2 i1)
+
+  pub last-run : X ++ p ∷ v ∷ q ∷ Y ≡ v1 ∷ v ∷ v2 ∷ []
+  last-run = go X Y (first-alone X p (M ++ q ∷ Y) (C .once) (subst (Head (X ++ p ∷ (M ++ q ∷ Y))) (sym (ends .1)) (C .first))) (last-alone v1 (X ++ p ∷ M) q Y (subst Once a (C .once)) (ap (lastOf v1) (sym a) ∙ C .last ∙ sym (ends .0))) (ends .1) (ends .0)
+    where
+      a : X ++ p ∷ (M ++ q ∷ Y) ≡ (X ++ p ∷ M) ++ q ∷ Y
+      a = sym (append-assoc X (p ∷ M) (q ∷ Y))
+
+      go : (X Y : List ℕ) → X ≡ [] → Y ≡ [] → p ≡ v1 → q ≡ v2 → X ++ p ∷ v ∷ q ∷ Y ≡ v1 ∷ v ∷ v2 ∷ []
+      go X Y ex ey ep eq = rw (ex, ey, ep, eq)
+
+module _ (G : List (List ℕ)) (vs : List ℕ) (P : Plane G (post vs 1) (post vs 2) (post vs (length G))) (O : Canonical G vs) where
+  A : Faces G
+  A = faces-plane G (post vs 1) (post vs 2) (post vs (length G)) P
+
+  n : length vs ≡ length G
+  n = O .all
+
+  N : Names (length G) vs
+  N = record { all = O .all; below = O .below; once = different-once vs (O .once) }
+
+  outer : After G (post vs 2) (post vs 1) (post vs (length G))
+  outer = follows-after G (post vs 2) (post vs 1) (post vs (length G)) (P .outer)
+
+  module _ (k : ℕ) (h : 3 ≤ k) (l : k < length G) (K : List ℕ) (C : Contour (After G) (post vs 1) (post vs 2) (take k vs) K) where
+    -- a wire of C_k is one of the contour's circle
+    pub wire-circle : (x y : ℕ) → ContourWire G vs k x y → Adj (post vs 2 ∷ K) x y
+    wire-circle x y w =
+        let z = w .1 .0 in
+        C .edge x y z (w .0 .0) (w .0 .1)
+        (λ i. exterior-waits G A (take k vs) (post vs 1) (post vs 2) (post vs (length G)) (not-yet G vs N k (length G) l (omega arith)) (w .1 .2) (w .0 .0, w .0 .1, i))
+        (follows-after G x y z (w .1 .1))
+
+    -- and the other way round: from v1 on, each post with a waiting neighbour has such a wire to the next one
+    chain : (Z X : List ℕ) (a : ℕ) → K ≡ X ++ a ∷ Z → In a (take k vs) → (x : ℕ) → In x (ring G a) → ¬ (In x (take k vs)) → (p q : ℕ) → Adj (a ∷ Z) p q → ContourWire G vs k p q
+    chain [] X a e i x j m p q (inl g) = absurd (g .1)
+    chain [] X a e i x j m p q (inr g) = absurd g
+    chain (z ∷ Z) X a e i x j m p q g = go (leave-at G vs P O k h (omega (arith, n)) a x i j m) (chain Z (X ++ a ∷ []) z (e ∙ sym (append-assoc X (a ∷ []) (z ∷ Z))))
+      where
+        single : Once (X ++ a ∷ z ∷ Z)
+        single = subst Once e (C .once)
+
+        go : (s y : ℕ) × After G a s y × In s (take k vs) × ¬ (In y (take k vs)) → (In z (take k vs) → (x : ℕ) → In x (ring G z) → ¬ (In x (take k vs)) → (p q : ℕ) → Adj (z ∷ Z) p q → ContourWire G vs k p q) → ContourWire G vs k p q
+        go t r = on (is (C .edge a (t .0) (t .1) i (t .3) (t .4) (t .2))) g
+          where
+            is : Adj (post vs 2 ∷ K) a (t .0) → z ≡ t .0
+            is (inl b) = absurd (no-more (last-alone (post vs 1) X a (z ∷ Z) single (ap (lastOf (post vs 1)) (sym e) ∙ C .last ∙ b .0)))
+              where
+                no-more : z ∷ Z ≡ [] → ⊥
+                no-more q = omega (arith, ap length q)
+            is (inr b) = once-next a (t .0) X (z ∷ Z) single (subst (λ (r : List ℕ). Adj r a (t .0)) e b)
+
+            on : z ≡ t .0 → Adj (a ∷ z ∷ Z) p q → ContourWire G vs k p q
+            on ez (inl b) = rw (← (b .0), ← (b .1), ez) (leave-wire G vs P O k h (omega (arith, n)) a (t .0) (t .1) i (t .2) (t .3) (t .4))
+            on ez (inr b) = r (rw ez (t .3)) (t .1) (rw ez (around-in (ring G (t .0)) (t .1) a (A .triangle a (t .0) (t .1) (t .2)) .0)) (t .4) p q b
+
+    pub circle-wire : (x y : ℕ) → Adj (post vs 2 ∷ K) x y → ContourWire G vs k x y
+    circle-wire x y (inl b) = rw (← (b .0), head-one K y (post vs 1) (b .1) (C .first)) (base-wire G vs P O k h (omega (arith, n)))
+    circle-wire x y (inr b) = go K refl (C .first) b
+      where
+        go : (L : List ℕ) → K ≡ L → Head L (post vs 1) → Adj L x y → ContourWire G vs k x y
+        go [] e f b = absurd b
+        go (v ∷ Z) e f b =
+            chain Z [] v e (rw f (post-in vs k 1 (omega arith) (omega arith) (omega (arith, n)))) (post vs (length G)) (rw f (around-in (ring G (post vs 1)) (post vs (length G)) (post vs 2) (A .triangle (post vs 2) (post vs 1) (post vs (length G)) outer) .0))
+            (not-yet G vs N k (length G) l (omega arith)) x y b
+
+  -- ---- C_k as a list
+  written : (k : ℕ) (M : List ℕ) → Once (post vs 1 ∷ (M ++ post vs 2 ∷ [])) → ((x y : ℕ) → ContourWire G vs k x y ↔ Adj (post vs 2 ∷ post vs 1 ∷ (M ++ post vs 2 ∷ [])) x y)
+      → ContourList G vs k (post vs 1 ∷ (M ++ post vs 2 ∷ []))
+  written k M o w = record {
+    between = M;
+    is = refl;
+    once = once-different (post vs 1 ∷ (M ++ post vs 2 ∷ [])) o;
+    wires = λ x y. (
+      λ c. adj-cut _ x y (rw (around-cut (post vs 1) M (post vs 2 ∷ [])) (adj-turn x y (post vs 2) [] (post vs 1) M (w x y .0 c))),
+      λ t. w x y .1 (adj-turn x y (post vs 1) M (post vs 2) [] (cut-adj _ (t .0) x y (t .1) (sym (around-cut (post vs 1) M (post vs 2 ∷ [])) ∙ t .2))),
+    );
+  }
+
+  differ-12 : post vs 1 ≢ post vs 2
+  differ-12 e = entry-other G A (post vs 1) (post vs 2) (P .bottom) (sym e)
+
+  -- below n: any list that has the contour's laws
+  pub contour-written : (k : ℕ) → 3 ≤ k → k < length G → (K : List ℕ) → Contour (After G) (post vs 1) (post vs 2) (take k vs) K → ContourList G vs k K
+  contour-written k h l K C = go (two-ends K (long K (C .first) (C .last)))
+    where
+      long : (K : List ℕ) → Head K (post vs 1) → lastOf (post vs 1) K ≡ post vs 2 → 2 ≤ length K
+      long [] f g = absurd f
+      long (x ∷ []) f g = absurd (differ-12 (sym f ∙ g))
+      long (x ∷ y ∷ K) f g = omega arith
+
+      go : (p : ℕ) × (M : List ℕ) × (q : ℕ) × (K ≡ p ∷ (M ++ q ∷ [])) → ContourList G vs k K
+      go t =
+          let e : K ≡ post vs 1 ∷ (t .1 ++ post vs 2 ∷ []) = t .3 ∙ both (t .0) (t .1) (t .2) (subst (λ (r : List ℕ). Head r (post vs 1)) (t .3) (C .first)) (sym (last-append (post vs 1) (t .0 ∷ t .1) (t .2) []) ∙ ap (lastOf (post vs 1)) (sym (t .3)) ∙ C .last) in
+          subst (ContourList G vs k) (sym e) (written k (t .1) (subst Once e (C .once)) (λ x y. (λ c. subst (λ (r : List ℕ). Adj (post vs 2 ∷ r) x y) e (wire-circle k h l K C x y c), λ b. circle-wire k h l K C x y (subst (λ (r : List ℕ). Adj (post vs 2 ∷ r) x y) (sym e) b))))
+        where
+          both : (p : ℕ) (M : List ℕ) (q : ℕ) → p ≡ post vs 1 → q ≡ post vs 2 → p ∷ (M ++ q ∷ []) ≡ post vs 1 ∷ (M ++ post vs 2 ∷ [])
+          both p M q e f = cc
+
+  -- at n: the outer triangle
+  module _ (three : 3 ≤ length G) where
+    placed : (j : ℕ) → 1 ≤ j → j ≤ length G → In (post vs j) (take (length G) vs)
+    placed j a b = post-in vs (length G) j a b (omega (arith, n))
+
+    around-outer : ContourWire G vs (length G) (post vs 2) (post vs 1) × ContourWire G vs (length G) (post vs 1) (post vs (length G)) × ContourWire G vs (length G) (post vs (length G)) (post vs 2)
+    around-outer =
+        sides G A (take (length G) vs) (post vs 2) (post vs 1) (post vs (length G)) outer (placed 2 (omega arith) (omega arith)) (placed 1 (omega arith) (omega arith)) (placed (length G) (omega arith) (omega arith))
+
+    pub last-written : ContourList G vs (length G) (post vs 1 ∷ post vs (length G) ∷ post vs 2 ∷ [])
+    last-written = written (length G) (post vs (length G) ∷ []) single (λ x y. (to x y, from x y))
+      where
+        apart : (i j : ℕ) → 1 ≤ i → i < j → j ≤ length G → post vs i ≢ post vs j
+        apart i j a b c e = let q = post-one G vs N i j a (omega arith) (omega arith) c e in omega arith
+
+        single : Once (post vs 1 ∷ post vs (length G) ∷ post vs 2 ∷ [])
+        single = (
+          elim [ inl e ↦ apart 1 (length G) (omega arith) (omega arith) (omega arith) e | inr i ↦ elim i [ inl e ↦ apart 1 2 (omega arith) (omega arith) (omega arith) e | inr j ↦ j ] ],
+          (elim [ inl e ↦ apart 2 (length G) (omega arith) (omega arith) (omega arith) (sym e) | inr i ↦ i ], ((λ i. i), tt)),
+        )
+
+        to : (x y : ℕ) → ContourWire G vs (length G) x y → Adj (post vs 2 ∷ post vs 1 ∷ post vs (length G) ∷ post vs 2 ∷ []) x y
+        to x y c =
+            elim (sides-only G A (take (length G) vs) (post vs 2) (post vs 1) (post vs (length G)) outer (placed 2 (omega arith) (omega arith)) (placed 1 (omega arith) (omega arith)) (placed (length G) (omega arith) (omega arith)) x y c) [
+              | inl e ↦ inl (sym (e .0), sym (e .1))
+              | inr i ↦ elim i [ inl e ↦ inr (inl (sym (e .0), sym (e .1))) | inr e ↦ inr (inr (inl (sym (e .0), sym (e .1)))) ]
+            ]
+
+        from : (x y : ℕ) → Adj (post vs 2 ∷ post vs 1 ∷ post vs (length G) ∷ post vs 2 ∷ []) x y → ContourWire G vs (length G) x y
+        from x y (inl b) = rw (← (b .0), ← (b .1)) (around-outer .0)
+        from x y (inr (inl b)) = rw (← (b .0), ← (b .1)) (around-outer .1)
+        from x y (inr (inr (inl b))) = rw (← (b .0), ← (b .1)) (around-outer .2)
+        from x y (inr (inr (inr (inl b)))) = absurd (b .1)
+        from x y (inr (inr (inr (inr b)))) = absurd b
+
+  -- at each stage C_k is a list from v1 to v2
+  pub stage-contour : (k : ℕ) → 3 ≤ k → k ≤ length vs → (K : List ℕ) × ContourList G vs k K
+  stage-contour k h l = go (ℕ-discrete k (length G))
+    where
+      T : Passes G vs
+      T = sound-passes G vs (P, O)
+
+      go : Dec (k ≡ length G) → (K : List ℕ) × ContourList G vs k K
+      go (yes e) = rw e (_, last-written (omega (arith, e)))
+      go (no m) =
+          let c = contour-at G vs A outer N k (omega arith) (omega (arith, n)) (λ j a b. (T .two j a (omega (arith, n)), T .run j a (omega (arith, n)))) in
+          (c .0, contour-written k h (omega (arith, n, m)) (c .0) (c .1))

@@ -1,0 +1,11 @@
+pub mod Sums
+pub mod Walks
+pub mod Counts
+pub mod Forced
+pub mod Named
+pub mod FromStages
+pub mod ToStages
+pub mod Contours
+pub mod Agree
+pub mod OnBoards
+pub mod OnOctahedron

@@ -1,0 +1,2 @@
+pub mod Co
+pub mod Forced
