@@ -17,12 +17,13 @@ use Rattle.lamp.specs.Lamp.{blockRows, orderRows}
 use Rattle.lamp.specs.Given.{NoneApplies}
 use Rattle.lamp.proofs.Sounds.{order-length}
 use Rattle.lamp.proofs.Accepts.{lists-count, none-boarded, none-framed, both-passes, passes-order}
+use Rattle.lamp.proofs.Retired.{paper-order, order-paper}
 use Rattle.growth.specs.Co.{Joined, CoOrder}
 use Rattle.growth.proofs.Named.{post-in}
 use Rattle.growth.proofs.Agree.{over-contour, by-wires}
 use Rattle.growth.proofs.ToStages.{to-stages}
 use Rattle.growth.proofs.FromStages.{from-stages}
-use Rattle.agree.specs.Agree.{Connected, CoStages, CoContours, SameRule}
+use Rattle.agree.specs.Agree.{Connected, CoStages, CoLists, CoContours, SameRule}
 use Rattle.agree.proofs.Stages.{stage-contour-list}
 
 module _ (s : List ℕ) (h : NoneApplies blockRows s) where
@@ -66,13 +67,13 @@ module _ (s : List ℕ) (h : NoneApplies blockRows s) where
       let P = boarded-plane G vs B (λ u l. c u (omega (arith, n))) in
       passes-order s (sound-passes G vs (P, from-stages G vs P (co-order r))) least
 
-  contours-co : CoContours s → CoStages s
-  contours-co c k a b = by-wires G vs k _ (c k a b)
+  lists-co : CoLists s → CoStages s
+  lists-co c k a b = let t = c k a b in by-wires G vs k (t .0) (t .1)
 
   -- G_n has every post, and is connected
   co-connected : CoStages s → Connected s
   co-connected r u l =
-      let two = r (posts s) least (omega arith) .two-connected .1 in
+      let two = r (posts s) least (omega arith) .co1-two-connected .1 in
       let v1 = post vs 1 in
       reached (two (posts s) v1 u first-in (all-in u l) (λ e. omega (arith, e, small v1 first-in)) (λ e. omega (arith, e)))
     where
@@ -95,8 +96,10 @@ module _ (s : List ℕ) (h : NoneApplies blockRows s) where
 pub same-rule : SameRule
 same-rule =
     record {
-      exactly = λ s h c. (rule-co s h, co-rule s h c);
-      over-contours = λ s h c. (rule-contours s h, λ r. co-rule s h c (contours-co s h r));
+      exactly = λ s h c. ((λ r. rule-co s h (order-paper s h r)), (λ r. paper-order s h (co-rule s h c r)));
+      without-14 = λ s h c. (rule-co s h, co-rule s h c);
+      over-lists = λ s h c. ((λ r k a b. (_, rule-contours s h r k a b)), (λ r. co-rule s h c (lists-co s h r)));
+      over-contours = λ s h c. (rule-contours s h, (λ r. co-rule s h c (lists-co s h (λ k a b. (_, r k a b)))));
       connected-by-rule = rule-connected;
       connected-by-co = co-connected;
     }

@@ -9,6 +9,7 @@ use Rattle.rings.specs.Plane.{Reached}
 use Rattle.placing.specs.Stages.{stage}
 use Rattle.lamp.specs.Lamp.{blockRows, orderRows}
 use Rattle.lamp.specs.Given.{NoneApplies}
+use Rattle.lamp.specs.Retired.{paperOrderRows}
 use Rattle.growth.specs.Co.{Co, CoOver}
 
 -- every post can be reached from v1
@@ -19,15 +20,22 @@ Connected s = (u : ℕ) → u < posts s → Reached (lists s) (post (order s) 1)
 abbrev pub CoStages : List ℕ → Type 0
 CoStages s = (k : ℕ) → 3 ≤ k → k ≤ posts s → Co (lists s) (order s) k
 
--- the same over the contours with which the paper places the posts: at every stage that list writes C_k
+-- the same written over contours: at every stage some list writes C_k, and they hold over it
+abbrev pub CoLists : List ℕ → Type 0
+CoLists s = (k : ℕ) → 3 ≤ k → k ≤ posts s → (K : List ℕ) × CoOver (lists s) (order s) k K
+
+-- and the list is the contour with which the paper places the posts
 abbrev pub CoContours : List ℕ → Type 0
 CoContours s = (k : ℕ) → 3 ≤ k → k ≤ posts s → CoOver (lists s) (order s) k (stage (lists s) (take k (order s)) .contour)
 
--- For connected blocks passing 1 to 11 the rule per position holds exactly when co1 to co3 hold at every stage,
+-- For connected blocks passing 1 to 11 the rule per position holds exactly when co1 to co3 hold at every stage: the paper's whole rule, with its
+-- later neighbour, and the rule as the table has it without.
 pub record SameRule : Type 0 where
-  pub exactly : (s : List ℕ) → NoneApplies blockRows s → Connected s → NoneApplies (orderRows s) s ↔ CoStages s
-  -- and exactly when they hold written over the stages' own contours.
+  pub exactly : (s : List ℕ) → NoneApplies blockRows s → Connected s → NoneApplies (paperOrderRows s) s ↔ CoStages s
+  pub without-14 : (s : List ℕ) → NoneApplies blockRows s → Connected s → NoneApplies (orderRows s) s ↔ CoStages s
+  -- And exactly when they hold written over contours, which are then those of the paper's stages.
+  pub over-lists : (s : List ℕ) → NoneApplies blockRows s → Connected s → NoneApplies (orderRows s) s ↔ CoLists s
   pub over-contours : (s : List ℕ) → NoneApplies blockRows s → Connected s → NoneApplies (orderRows s) s ↔ CoContours s
-  -- Nothing needs to be known of connectedness: the rule gives it, and co1 at stage n does.
+  -- That a block is connected needs no test: the rule gives it, and so does co1 at stage n.
   pub connected-by-rule : (s : List ℕ) → NoneApplies blockRows s → NoneApplies (orderRows s) s → Connected s
   pub connected-by-co : (s : List ℕ) → NoneApplies blockRows s → CoStages s → Connected s

@@ -20,19 +20,19 @@ module _ (G : List (List ℕ)) (vs : List ℕ) (k : ℕ) (K : List ℕ) where
   pub over-contour : ContourList G vs k K → Co G vs k → CoOver G vs k K
   over-contour W c = record {
     contour = W;
-    two-connected = c .two-connected;
-    triangulated = c .triangulated;
-    outside = c .outside;
-    near = λ l a i j. on-list G vs k K W a .0 (c .near l a i j);
+    co1-two-connected = c .co1-two-connected;
+    co1-triangulated = c .co1-triangulated;
+    co3-outside = c .co3-outside;
+    co3-near = λ l a i j. on-list G vs k K W a .0 (c .co3-near l a i j);
   }
 
   pub by-wires : CoOver G vs k K → Co G vs k
   by-wires c = record {
-    two-connected = c .two-connected;
-    triangulated = c .triangulated;
-    base = inr (c .contour .wires (post vs 2) (post vs 1) .1 (post vs 1 ∷ c .contour .between, [], closed));
-    outside = c .outside;
-    near = λ l a i j. on-list G vs k K (c .contour) a .1 (c .near l a i j);
+    co1-two-connected = c .co1-two-connected;
+    co1-triangulated = c .co1-triangulated;
+    co2-base = inr (c .contour .wires (post vs 2) (post vs 1) .1 (post vs 1 ∷ c .contour .between, [], closed));
+    co3-outside = c .co3-outside;
+    co3-near = λ l a i j. on-list G vs k K (c .contour) a .1 (c .co3-near l a i j);
   }
     where
       closed : around K ≡ (post vs 1 ∷ c .contour .between) ++ post vs 2 ∷ post vs 1 ∷ []

@@ -65,7 +65,7 @@ module _ (G : List (List ℕ)) (vs : List ℕ) (P : Plane G (post vs 1) (post vs
     v = post vs k
 
     apart : (z a b : ℕ) → In a (take k vs) → In b (take k vs) → a ≢ z → b ≢ z → Joined G (take k vs) z a b
-    apart = O .co k h l .two-connected .1
+    apart = O .co k h l .co1-two-connected .1
 
     v-in : In v (take k vs)
     v-in = post-in vs k k (omega arith) (omega arith) l
@@ -127,7 +127,7 @@ module _ (G : List (List ℕ)) (vs : List ℕ) (P : Plane G (post vs 1) (post vs
       let s : post vs (suc k) ≡ getD vs k 0 = post-suc vs k in
       let a = two-at (suc k) (omega arith) (omega (arith, n)) in
       let b = around-next (ring G (post vs (suc k))) (a .a) (a .near-a) in
-      let f = O .co k h (omega (arith, n)) .outside (omega (arith, n)) (a .a) (b .0) (after-follows G (post vs (suc k)) (a .a) (b .0) (b .1)) in
+      let f = O .co k h (omega (arith, n)) .co3-outside (omega (arith, n)) (a .a) (b .0) (after-follows G (post vs (suc k)) (a .a) (b .0) (b .1)) in
       subst (λ (r : ℕ). (a : ℕ) × In a (ring G r) × ¬ (In a (take k vs))) s
       (go (exterior-posts G A (take k vs) (post vs 1) (post vs 2) (post vs (length G)) (post-in vs k 1 (omega arith) (omega arith) (omega (arith, n))) (post-in vs k 2 (omega arith) (omega arith) (omega (arith, n))) f .0))
     where

@@ -100,7 +100,7 @@ autumn-hidden o = go (exterior-posts listsD faces-D (0 ∷ 1 ∷ 3 ∷ []) 0 1 4
     go (inr (inr t)) = t .2 (t .1)
 
 pub autumn-not : ¬ (CoOrder listsD autumn)
-autumn-not o = autumn-hidden (o .co 3 (omega arith) (omega arith) .outside (omega arith))
+autumn-not o = autumn-hidden (o .co 3 (omega arith) (omega arith) .co3-outside (omega arith))
 
 -- co1 alone lets it hide: G_3's only internal face, in which it lies, is a triangle
 data Hidden : ℕ → ℕ → ℕ → Type 0 where

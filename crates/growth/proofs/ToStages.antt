@@ -277,14 +277,14 @@ module _ (G : List (List ℕ)) (vs : List ℕ) (P : Plane G (post vs 1) (post vs
 
   co-at : (k : ℕ) → 3 ≤ k → k ≤ length vs → Co G vs k
   co-at k h l = record {
-    two-connected = two-connected k h l;
-    triangulated = λ u v w f no-out.
+    co1-two-connected = two-connected k h l;
+    co1-triangulated = λ u v w f no-out.
         let g = follows-after G u v w f in
         let i = inside k (omega arith) u v w g no-out in
         triangular G A (take k vs) u v w g (i .0) (i .1) (i .2);
-    base = inr (base-wire k h l);
-    outside = λ m a b f. out-at k (omega arith) (post vs (suc k)) (not-yet G vs N k (suc k) (omega arith) (omega (arith, n))) a b (follows-after G (post vs (suc k)) a b f);
-    near = λ m a i j. near-contour k h l a (post vs (suc k)) i (entry-returned G A (post vs (suc k)) a j) (not-yet G vs N k (suc k) (omega arith) (omega (arith, n)));
+    co2-base = inr (base-wire k h l);
+    co3-outside = λ m a b f. out-at k (omega arith) (post vs (suc k)) (not-yet G vs N k (suc k) (omega arith) (omega (arith, n))) a b (follows-after G (post vs (suc k)) a b f);
+    co3-near = λ m a i j. near-contour k h l a (post vs (suc k)) i (entry-returned G A (post vs (suc k)) a j) (not-yet G vs N k (suc k) (omega arith) (omega (arith, n)));
   }
 
   pub to-stages : CoOrder G vs

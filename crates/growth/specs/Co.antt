@@ -1,5 +1,6 @@
 -- Document 002's conditions co1 to co3, over rings. G_k is the graph induced by the posts in positions 1 to k. Its faces are made of the whole
--- graph's triangles, joined across each wire that G_k lacks.
+-- graph's triangles, joined across each wire that G_k lacks. All of it is meant for a triangulated plane graph (rings: Plane): on a torus triangles
+-- joined so need not be a face, and the seven-post torus would keep co1 to co3.
 use Prim.Native.Nat.{ℕ, suc, _≤_, _<_}
 use mathlib.Core.Path.{_≡_}
 use mathlib.Core.Logic.{_⊎_, _≢_, _↔_}
@@ -13,17 +14,19 @@ use Rattle.rings.specs.Plane.{Follows, Wire}
 -- ---- faces, over any posts placed
 
 -- The face in which the triangle a b c lies: the triangles reached from it by going on to the next corner, and by crossing a wire that is not one
--- between placed posts. (A triangle u v w has w follow v at u, so it lies left of the wire from u to v; right of it lies the triangle v u x.)
+-- between placed posts; so all triangles around a post that is not placed are joined. (A triangle u v w has w follow v at u, so it lies left of the
+-- wire from u to v; right of it lies the triangle v u x.)
 pub data Face (G : List (List ℕ)) (placed : List ℕ) (a b c : ℕ) : ℕ → ℕ → ℕ → Type 0 where
   same : Face G placed a b c a b c
   turn : {u v w : ℕ} → Face G placed a b c u v w → Face G placed a b c v w u
   cross : {u v w x : ℕ} → Face G placed a b c u v w → ¬ (Wire G placed u v) → Follows G v u x → Face G placed a b c v u x
 
--- the wire from x to y, both placed, has that face on its left
+-- the wire from x to y, both placed, has that face on its left. A wire with the face on both sides borders it in both directions.
 abbrev pub Border : List (List ℕ) → List ℕ → ℕ → ℕ → ℕ → ℕ → ℕ → Type 0
 Border G placed a b c x y = Wire G placed x y × ((z : ℕ) × Follows G x y z × Face G placed a b c x y z)
 
--- that face is a triangle: three wires between three different posts border it, and no other wire does
+-- that face is a triangle: three wires between three different posts border it, and no other wire does (a placed post with no wire would not be seen
+-- here; two-connected excludes it)
 pub record Triangular (G : List (List ℕ)) (placed : List ℕ) (a b c : ℕ) : Type 0 where
   pub p : ℕ
   pub q : ℕ
@@ -41,7 +44,7 @@ pub data Joined (G : List (List ℕ)) (placed : List ℕ) (z a : ℕ) : ℕ → 
   here : Joined G placed z a a
   along : {u w : ℕ} → Joined G placed z a u → Wire G placed u w → w ≢ z → Joined G placed z a w
 
--- 2-connected: three posts or more, any two of which are joined without any one other post
+-- 2-connected: three posts or more, any two of which are joined without any one other post (for a z that is not placed: connected)
 abbrev pub TwoConnected : List (List ℕ) → List ℕ → Type 0
 TwoConnected G placed = (3 ≤ length placed) × ((z a b : ℕ) → In a placed → In b placed → a ≢ z → b ≢ z → Joined G placed z a b)
 
@@ -62,7 +65,8 @@ ContourWire G vs k x y = Border G (take k vs) (post vs 2) (post vs 1) (post vs (
 abbrev pub ContourPost : List (List ℕ) → List ℕ → ℕ → ℕ → Type 0
 ContourPost G vs k a = (b : ℕ) × (ContourWire G vs k a b ⊎ ContourWire G vs k b a)
 
--- The list K writes C_k as w_1 = v1, .., w_m = v2: no post twice; its wires are those from each post of the list to the next, and from v2 to v1.
+-- The list K writes C_k as w_1 = v1, .., w_m = v2, from left to right along the top: no post twice; its wires are those from each post of the list to
+-- the next, and back along the bottom from v2 to v1.
 pub record ContourList (G : List (List ℕ)) (vs : List ℕ) (k : ℕ) (K : List ℕ) : Type 0 where
   pub between : List ℕ
   pub is : K ≡ post vs 1 ∷ (between ++ post vs 2 ∷ [])
@@ -72,23 +76,23 @@ pub record ContourList (G : List (List ℕ)) (vs : List ℕ) (k : ℕ) (K : List
 -- co1, co2 and co3 at stage k
 pub record Co (G : List (List ℕ)) (vs : List ℕ) (k : ℕ) : Type 0 where
   -- co1: G_k is 2-connected, and each face but the exterior one is a triangle
-  pub two-connected : TwoConnected G (take k vs)
-  pub triangulated : (u v w : ℕ) → Follows G u v w → ¬ (Exterior G vs k u v w) → Triangular G (take k vs) u v w
-  -- co2: C_k contains the wire v1 v2
-  pub base : ContourWire G vs k (post vs 1) (post vs 2) ⊎ ContourWire G vs k (post vs 2) (post vs 1)
+  pub co1-two-connected : TwoConnected G (take k vs)
+  pub co1-triangulated : (u v w : ℕ) → Follows G u v w → ¬ (Exterior G vs k u v w) → Triangular G (take k vs) u v w
+  -- co2: C_k contains the wire v1 v2 (it follows from the outer triangle rule, and is stated as the document states it)
+  pub co2-base : ContourWire G vs k (post vs 1) (post vs 2) ⊎ ContourWire G vs k (post vs 2) (post vs 1)
   -- co3: below n, the next post lies in the exterior face, and its neighbours in G_k are on C_k
-  pub outside : k < length vs → Outside G vs k (post vs (suc k))
-  pub near : k < length vs → (a : ℕ) → In a (take k vs) → In a (ring G (post vs (suc k))) → ContourPost G vs k a
+  pub co3-outside : k < length vs → Outside G vs k (post vs (suc k))
+  pub co3-near : k < length vs → (a : ℕ) → In a (take k vs) → In a (ring G (post vs (suc k))) → ContourPost G vs k a
 
 -- the same written over the contour: the list K writes C_k, closed by the wire v1 v2 (co2), and the next post's neighbours in G_k stand in K
 pub record CoOver (G : List (List ℕ)) (vs : List ℕ) (k : ℕ) (K : List ℕ) : Type 0 where
   pub contour : ContourList G vs k K
-  pub two-connected : TwoConnected G (take k vs)
-  pub triangulated : (u v w : ℕ) → Follows G u v w → ¬ (Exterior G vs k u v w) → Triangular G (take k vs) u v w
-  pub outside : k < length vs → Outside G vs k (post vs (suc k))
-  pub near : k < length vs → (a : ℕ) → In a (take k vs) → In a (ring G (post vs (suc k))) → In a K
+  pub co1-two-connected : TwoConnected G (take k vs)
+  pub co1-triangulated : (u v w : ℕ) → Follows G u v w → ¬ (Exterior G vs k u v w) → Triangular G (take k vs) u v w
+  pub co3-outside : k < length vs → Outside G vs k (post vs (suc k))
+  pub co3-near : k < length vs → (a : ℕ) → In a (take k vs) → In a (ring G (post vs (suc k))) → In a K
 
--- document 002's canonical order: it names each post once, and co1 to co3 hold at each stage from 3 to n
+-- document 002's canonical order of a triangulated plane graph: it names each post once, and co1 to co3 hold at each stage from 3 to n
 pub record CoOrder (G : List (List ℕ)) (vs : List ℕ) : Type 0 where
   pub all : length vs ≡ length G
   pub below : (a : ℕ) → In a vs → a < length G

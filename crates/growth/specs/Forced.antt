@@ -8,7 +8,8 @@ use Rattle.words.specs.Positions.{post, Earlier, Later}
 use Rattle.rings.specs.Rings.{ring}
 use Rattle.order.specs.Canonical.{Two}
 
--- the order names each post once; each post from position 3 on has an earlier neighbour, and below n a later one
+-- The order names each post once; each post from position 3 on has an earlier neighbour, and below n a later one. (Where v1, v2 and vn are the outer
+-- triangle, that is an st-numbering from v1 to vn.)
 pub record Bridging (G : List (List ℕ)) (vs : List ℕ) : Type 0 where
   pub all : length vs ≡ length G
   pub below : (a : ℕ) → In a vs → a < length G

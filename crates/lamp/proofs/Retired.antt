@@ -21,8 +21,8 @@ use Rattle.lamp.specs.Given.{refused, given, NoneApplies}
 use Rattle.lamp.specs.Refusals.{numberOf}
 use Rattle.lamp.specs.declared.Refusal.{Refusal}
 use Rattle.lamp.specs.declared.Refusal.the-variants.{Short, Mark, Version, Posts, Length, Sum, Order, Degrees, Ring, Triangle, Outer, Few, Broken, Stage, Room, Name}
-use Rattle.lamp.specs.Retired.{retired, retiredRow, paperPositionRows, paperRows, NoneIs, Retirement}
-use Rattle.lamp.proofs.Given.{given-end, given-skip, given-stop, given-alike, not-both}
+use Rattle.lamp.specs.Retired.{retired, retiredRow, paperPositionRows, paperOrderRows, paperRows, NoneIs, Retirement}
+use Rattle.lamp.proofs.Given.{given-end, given-skip, given-stop, given-alike, given-none, given-says, not-both}
 use Rattle.lamp.proofs.Accepts.{lists-count, none-boarded, none-position}
 
 -- ---- a reply's number is that of a row
@@ -132,12 +132,25 @@ module _ (s : List ℕ) (h : NoneApplies blockRows s) where
         (λ p. given-skip s answer r (P ++ after) (passed k l b p) ∙ from-position m (suc k) (omega arith) (next k b p))
         ∙ ap (λ (l : List Row). given l s answer) (sym (append-assoc (positionRows k) Q after))
 
+-- the paper's rule per position applies nowhere exactly if the one without 14 does not
+module _ (s : List ℕ) (h : NoneApplies blockRows s) where
+  alike : given (paperOrderRows s) s posts ≡ given (orderRows s) s posts
+  alike =
+      ap (λ (l : List Row). given l s posts) (sym (append-nil (paperOrderRows s)))
+      ∙ from-position s h posts [] (posts s - 2) 3 (omega arith) (λ j a b. absurd (omega arith))
+      ∙ ap (λ (l : List Row). given l s posts) (append-nil (orderRows s))
+
+  pub paper-order : NoneApplies (orderRows s) s → NoneApplies (paperOrderRows s) s
+  paper-order r = given-says s posts (paperOrderRows s) (posts s) (alike ∙ given-none s posts (orderRows s) r)
+
+  pub order-paper : NoneApplies (paperOrderRows s) s → NoneApplies (orderRows s) s
+  order-paper r = given-says s posts (orderRows s) (posts s) (sym alike ∙ given-none s posts (paperOrderRows s) r)
+
 same : {A : Type 0} (answer : List ℕ → A) (after : List Row) (s : List ℕ) → given (paperRows s ++ after) s answer ≡ given (checkRows s ++ after) s answer
 unfolding paperRows checkRows
 same answer after s =
-    let P = flatMap paperPositionRows (numbers 3 (posts s - 2)) in
-    ap (λ (l : List Row). given l s answer) (append-assoc blockRows P after)
-    ∙ given-alike s answer blockRows (P ++ after) (orderRows s ++ after) (λ h. from-position s h answer after (posts s - 2) 3 (omega arith) (λ j a b. absurd (omega arith)))
+    ap (λ (l : List Row). given l s answer) (append-assoc blockRows (paperOrderRows s) after)
+    ∙ given-alike s answer blockRows (paperOrderRows s ++ after) (orderRows s ++ after) (λ h. from-position s h answer after (posts s - 2) 3 (omega arith) (λ j a b. absurd (omega arith)))
     ∙ ap (λ (l : List Row). given l s answer) (sym (append-assoc blockRows (orderRows s) after))
 
 sheet-never : {A : Type 0} (answer : List ℕ → A) (s : List ℕ) (k room place : ℕ)

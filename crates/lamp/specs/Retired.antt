@@ -22,12 +22,15 @@ abbrev pub retiredRow : ℕ → Row
 retiredRow k =
     record { number = retired; when = λ s. ltb k (posts s) && not (oneLater (lists s) (later (order s) k) (post (order s) k)); place = λ s. k }
 
--- the paper's own table: at each position 12 and 13, then 14
+-- the paper's own rule per position, 12 and 13 and then 14; and its table for check
 abbrev pub paperPositionRows : ℕ → List Row
 paperPositionRows k = positionRows k ++ retiredRow k ∷ []
 
+abbrev pub paperOrderRows : List ℕ → List Row
+paperOrderRows s = flatMap paperPositionRows (numbers 3 (posts s - 2))
+
 unfoldable pub paperRows : List ℕ → List Row
-paperRows s = blockRows ++ flatMap paperPositionRows (numbers 3 (posts s - 2))
+paperRows s = blockRows ++ paperOrderRows s
 
 -- no row of these has the number
 abbrev pub NoneIs : ℕ → List Row → Type 0

@@ -21,7 +21,7 @@ pub data Reached (G : List (List ℕ)) (v1 : ℕ) : ℕ → Type 0 where
 abbrev pub Wire : List (List ℕ) → List ℕ → ℕ → ℕ → Type 0
 Wire G placed a b = In a placed × In b placed × In b (ring G a)
 
--- u, a, b is the outer triangle v2, v1, vn, read from any of its posts on
+-- u, a, b is the outer triangle v2, v1, vn in this turn, read from any of its posts on (in the other turn, v1, v2, vn is an inner one where n = 3)
 abbrev pub OuterTriangle : ℕ → ℕ → ℕ → ℕ → ℕ → ℕ → Type 0
 OuterTriangle v1 v2 vn u a b =
     ((u ≡ v2) × (a ≡ v1) × (b ≡ vn)) ⊎ (((u ≡ v1) × (a ≡ vn) × (b ≡ v2)) ⊎ ((u ≡ vn) × (a ≡ v2) × (b ≡ v1)))
