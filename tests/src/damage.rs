@@ -384,13 +384,6 @@ pub const KINDS: &[Damage] = damages![
     },
 ];
 
-/// The refusal that no block can get. As long as 12 and 13 don't come, each new
-/// post's run is a stretch of the contour, a ring of wires with v1 v2 among
-/// them. A post below position n with no later neighbour would have the whole
-/// contour around it, v1 following v2 there; so it would follow v1 at v2, and
-/// step 11 has found vn in that place.
-pub const CANNOT_COME: u16 = 14;
-
 /// Boards in pieces with the right number of entries and triangles everywhere:
 /// a plane piece (the first one's posts) beside one torus or more. Each comes
 /// with the number of posts of its plane piece.
@@ -450,7 +443,7 @@ mod tests {
                 }
             }
         }
-        for number in (1..CANNOT_COME).map(Some) {
+        for number in (1..=13).map(Some) {
             assert!(reached.contains(&number), "{number:?}");
         }
     }
@@ -475,7 +468,7 @@ mod tests {
             for _ in 0..100 {
                 let board = order_of_pieces(&rings, plane_posts, &mut rng);
                 let refusal = paper::check(&board.block()).unwrap_err();
-                assert!((12..=14).contains(&refusal.number), "{refusal:?}");
+                assert!((12..=13).contains(&refusal.number), "{refusal:?}");
             }
         }
     }

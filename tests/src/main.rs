@@ -20,6 +20,10 @@ const HUGE: [usize; 5] = [
     usize::MAX,
 ];
 
+/// The refusals of the table, each of which must come up. 14 is retired: no
+/// block could show it.
+const REFUSALS: [usize; 16] = [1, 2, 3, 4, 5, 6, 7, 8, 9, 10, 11, 12, 13, 15, 16, 17];
+
 fn main() {
     println!("outside: answers come from {}", ffi::ANSWERED_BY);
     let mut run = Run {
@@ -96,9 +100,10 @@ impl Run {
         println!("replies by number (0: accepted):");
         for (number, count) in tester.replies.iter().enumerate() {
             println!("  {number:2}: {count}");
-            let can_come = number != usize::from(damage::CANNOT_COME);
-            assert_eq!(*count > 0, can_come, "reply {number} came {count} times");
+            let may_come = number == 0 || REFUSALS.contains(&number);
+            assert_eq!(*count > 0, may_come, "reply {number} came {count} times");
         }
+        println!("each number that may come came; 14, which is retired, did not");
         println!(
             "{} sheets tested pair of wires by pair of wires, {} pairs of stages for moves",
             tester.sheets, tester.pairs_of_stages
