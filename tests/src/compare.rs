@@ -20,6 +20,8 @@ pub struct Tester {
     /// How many sheets were tested for wires that meet.
     pub sheets: u64,
     pub pairs_of_stages: u64,
+    /// How many inner triangles were tested for their turn.
+    pub triangles: u64,
 }
 
 impl Tester {
@@ -70,7 +72,8 @@ impl Tester {
         self.replies[refusal.map_or(0, |refusal| usize::from(refusal.number))] += 1;
     }
 
-    /// Test the third demand on the sheets of a board at these stages, which ascend.
+    /// Test the third demand and the turn of every inner triangle on the sheets
+    /// of a board at these stages, which ascend.
     pub fn geometry(&mut self, board: &Board, stages: &[usize]) {
         let block = board.block();
         let mut before: Option<(usize, Vec<u16>)> = None;
@@ -84,6 +87,10 @@ impl Tester {
             self.sheets += 1;
             if let Some(fault) = geometry::stage_fault(board, &sheet) {
                 fails(&format!("stage {stage}: {fault}"), &block);
+            }
+            match geometry::turning_triangles(board, &sheet) {
+                Ok(triangles) => self.triangles += triangles as u64,
+                Err(fault) => fails(&format!("stage {stage}: {fault}"), &block),
             }
             if let Some((earlier, old)) = before {
                 self.pairs_of_stages += 1;

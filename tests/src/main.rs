@@ -108,6 +108,10 @@ impl Run {
             "{} sheets tested pair of wires by pair of wires, {} pairs of stages for moves",
             tester.sheets, tester.pairs_of_stages
         );
+        println!(
+            "{} inner triangles on these sheets, each turned as its rings say",
+            tester.triangles
+        );
         println!("{:.1} s in all", self.started.elapsed().as_secs_f64());
         println!("outside: {} calls compared, 0 differences", tester.calls);
     }
