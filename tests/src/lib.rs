@@ -8,6 +8,7 @@ pub mod board;
 pub mod boards;
 pub mod cases;
 pub mod compare;
+pub mod contours;
 pub mod damage;
 pub mod ffi;
 pub mod geometry;

@@ -2,7 +2,7 @@
 //! compared with what the paper says. It ends at the first difference.
 
 use outside::board::{d, mend_sum, t, Board};
-use outside::boards::{self, every_board, random, Kind, KINDS};
+use outside::boards::{self, every_board, permute, random, Kind, KINDS};
 use outside::compare::{fails, Tester};
 use outside::rng::Rng;
 use outside::{cases, damage, ffi};
@@ -210,18 +210,6 @@ fn every_order_of_small_boards(run: &mut Run) {
                 let _ = run.tester.check(&board.block());
             });
         });
-    }
-}
-
-/// Visit the board with every arrangement of its order from position `from` on.
-fn permute(board: &mut Board, from: usize, visit: &mut dyn FnMut(&Board)) {
-    if from == board.posts() {
-        return visit(board);
-    }
-    for i in from..board.posts() {
-        board.order.swap(from, i);
-        permute(board, from + 1, visit);
-        board.order.swap(from, i);
     }
 }
 
