@@ -16,4 +16,5 @@ pub mod linear;
 pub mod paper;
 pub mod reply;
 pub mod rng;
+pub mod runs;
 pub mod text;
