@@ -376,6 +376,8 @@ fn boards_in_pieces(run: &mut Run) {
     outer_triangle_on_the_torus(run);
 }
 
+/// A board in pieces is refused, and its last stage, which isn't connected,
+/// breaks co1.
 fn in_pieces_refused(run: &mut Run, board: &Board) {
     let block = board.block();
     let reply = run.tester.check(&block);
