@@ -364,6 +364,19 @@ fn free_places(rings: &Rings, contour: &[u16]) -> Vec<usize> {
         .collect()
 }
 
+/// Visit the board with every arrangement of its order from position `from` on,
+/// counted from 0.
+pub fn permute(board: &mut Board, from: usize, visit: &mut dyn FnMut(&Board)) {
+    if from == board.posts() {
+        return visit(board);
+    }
+    for i in from..board.posts() {
+        board.order.swap(from, i);
+        permute(board, from + 1, visit);
+        board.order.swap(from, i);
+    }
+}
+
 /// The same board with names and list starts drawn by lot.
 pub fn disguised(board: &Board, rng: &mut Rng) -> Board {
     let mut names: Vec<u16> = (0..board.posts() as u16).collect();

@@ -2,9 +2,9 @@
 //! the program at the first difference.
 
 use crate::board::Board;
-use crate::geometry;
-use crate::reply::{post_reply, readable, word, Record, Refusal};
-use crate::{ffi, paper, text};
+use crate::contours::{self, Condition};
+use crate::reply::{post_reply, readable, word, Record, Refusal, Standing};
+use crate::{ffi, geometry, paper, runs, text};
 use std::fmt::Display;
 use std::process::exit;
 
@@ -20,6 +20,42 @@ pub struct Tester {
     /// How many sheets were tested for wires that meet.
     pub sheets: u64,
     pub pairs_of_stages: u64,
+    /// How many inner triangles were tested for their turn.
+    pub triangles: u64,
+    pub conditions: Conditions,
+    pub forced: Forced,
+    /// How many contours told by records were compared with a face.
+    pub contours: u64,
+}
+
+/// How many orders were compared with document 002's conditions.
+#[derive(Default)]
+pub struct Conditions {
+    /// Accepted, and the conditions hold at every stage.
+    pub kept: u64,
+    /// Refused, by the condition that is broken first.
+    pub co1: u64,
+    pub co2: u64,
+    pub co3: u64,
+    /// Accepted and compared at some stages alone.
+    pub kept_at_some_stages: u64,
+}
+
+impl Conditions {
+    pub fn orders(&self) -> u64 {
+        self.kept + self.kept_at_some_stages + self.co1 + self.co2 + self.co3
+    }
+}
+
+/// How many orders that pass steps 1 to 11 were asked whether one run is forced.
+#[derive(Default)]
+pub struct Forced {
+    pub orders: u64,
+    /// Each post has an earlier neighbour, from position 3 on, and a later one,
+    /// below n: with two earlier ones everywhere, accepted.
+    pub with_two: u64,
+    /// The same with one earlier neighbour somewhere, refused with 12.
+    pub with_one: u64,
 }
 
 impl Tester {
@@ -70,7 +106,8 @@ impl Tester {
         self.replies[refusal.map_or(0, |refusal| usize::from(refusal.number))] += 1;
     }
 
-    /// Test the third demand on the sheets of a board at these stages, which ascend.
+    /// Test the third demand and the turn of every inner triangle on the sheets
+    /// of a board at these stages, which ascend.
     pub fn geometry(&mut self, board: &Board, stages: &[usize]) {
         let block = board.block();
         let mut before: Option<(usize, Vec<u16>)> = None;
@@ -85,6 +122,10 @@ impl Tester {
             if let Some(fault) = geometry::stage_fault(board, &sheet) {
                 fails(&format!("stage {stage}: {fault}"), &block);
             }
+            match geometry::turning_triangles(board, &sheet) {
+                Ok(triangles) => self.triangles += triangles as u64,
+                Err(fault) => fails(&format!("stage {stage}: {fault}"), &block),
+            }
             if let Some((earlier, old)) = before {
                 self.pairs_of_stages += 1;
                 if let Some(fault) = geometry::moves_fault(&old, &sheet, stage - earlier) {
@@ -94,6 +135,107 @@ impl Tester {
             before = Some((stage, sheet));
         }
     }
+}
+
+/// Document 002's conditions and the rule for each position.
+impl Tester {
+    /// Compare the reply to a board's block with the conditions: if it isn't
+    /// refused by steps 1 to 11, it is accepted exactly if they hold at every
+    /// stage.
+    pub fn conditions(&mut self, board: &Board, reply: Result<u16, Refusal>) {
+        if !passes_step_11(reply) {
+            return;
+        }
+        let broken = contours::first_broken(board);
+        match (reply, broken) {
+            (Ok(_), None) => self.conditions.kept += 1,
+            (Err(_), Some((_, Condition::Co1))) => self.conditions.co1 += 1,
+            (Err(_), Some((_, Condition::Co2))) => self.conditions.co2 += 1,
+            (Err(_), Some((_, Condition::Co3))) => self.conditions.co3 += 1,
+            _ => fails(
+                &format!("co1 to co3: first broken {broken:?}, but the reply is {reply:?}"),
+                &board.block(),
+            ),
+        }
+    }
+
+    /// The conditions must hold at these stages of an accepted board.
+    pub fn conditions_at(&mut self, board: &Board, stages: &[usize]) {
+        for &stage in stages {
+            if let Some(broken) = contours::broken_at(board, stage) {
+                let what = format!("stage {stage} of a right board: {broken:?} is broken");
+                fails(&what, &board.block());
+            }
+        }
+        self.conditions.kept_at_some_stages += 1;
+    }
+
+    /// Compare the exterior face of every stage of an accepted board with the
+    /// contour that the records of its posts tell.
+    pub fn contours(&mut self, board: &Board) {
+        let block = board.block();
+        for stage in 3..=board.posts() {
+            let contour = contours::contour(board, stage);
+            for name in 0..board.posts() {
+                let told = match self.post(&block, stage, name).map(|record| record.standing) {
+                    Ok(Standing::OnContour { left, right }) => Some((left, right)),
+                    _ => None,
+                };
+                let walked = neighbours_along(&contour, name as u16);
+                if told != walked {
+                    let what = format!("the contour of stage {stage} at post {name}");
+                    let sides = format!("the record tells {told:?}, the face {walked:?}");
+                    fails(&format!("{what}: {sides}"), &block);
+                }
+            }
+            self.contours += 1;
+        }
+    }
+
+    /// Hold the reply to the block of a connected board against the rule that one
+    /// run is forced, and that two earlier neighbours are what is needed.
+    pub fn forced_runs(&mut self, board: &Board, reply: Result<u16, Refusal>) {
+        if !passes_step_11(reply) {
+            return;
+        }
+        self.forced.orders += 1;
+        let wrong = |what: &str| fails(&format!("{what}: the reply is {reply:?}"), &board.block());
+        let posts = runs::by_position(board);
+        if !runs::both_ways(&posts) {
+            if reply.is_ok() {
+                wrong("a post without an earlier or a later neighbour");
+            }
+            return;
+        }
+        if let Some(position) = runs::first_not_one_run(&posts) {
+            wrong(&format!(
+                "one run is forced, but not at position {position}"
+            ));
+        }
+        match runs::first_with_fewer_than_two(&posts) {
+            None if reply.is_ok() => self.forced.with_two += 1,
+            None => wrong("two earlier neighbours everywhere"),
+            Some(position) => {
+                let (number, place) = (12, position as u16);
+                if reply != Err(Refusal { number, place }) {
+                    wrong(&format!("one earlier neighbour at position {position}"));
+                }
+                self.forced.with_one += 1;
+            }
+        }
+    }
+}
+
+/// Whether check accepts or refuses only by the order, at a position from 3 on.
+pub fn passes_step_11(reply: Result<u16, Refusal>) -> bool {
+    reply.map_or_else(|refusal| refusal.number > 11, |_| true)
+}
+
+/// A post's left and right neighbour on a contour, if it is there: at the ends itself.
+fn neighbours_along(contour: &[u16], post: u16) -> Option<(u16, u16)> {
+    let i = contour.iter().position(|&w| w == post)?;
+    let last = contour.len() - 1;
+    Some((contour[i.saturating_sub(1)], contour[last.min(i + 1)]))
 }
 
 /// What stands in a buffer before a call: a different number in each entry.

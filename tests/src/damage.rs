@@ -125,6 +125,25 @@ impl Draft<'_> {
     }
 }
 
+/// The board's order with one post, drawn by lot, moved to just after the last
+/// of its neighbours: all of them are earlier, and its position is below n. The
+/// post has no wire to vn, so v1, v2 and vn stay; there may be no such post.
+fn without_later_neighbour(board: &Board, rng: &mut Rng) -> Option<Vec<u16>> {
+    let mut order = board.order.clone();
+    let vn = order[order.len() - 1];
+    let ring = |post: u16| &board.rings[post as usize];
+    let far_from_vn = |post: &u16| *post != vn && !ring(*post).contains(&vn);
+    let posts: Vec<u16> = order.iter().copied().filter(far_from_vn).collect();
+    if posts.is_empty() {
+        return None;
+    }
+    let post = rng.pick(&posts);
+    order.retain(|&other| other != post);
+    let last = order.iter().rposition(|other| ring(post).contains(other))?;
+    order.insert(last + 1, post);
+    Some(order)
+}
+
 /// A kind of damage.
 pub struct Damage {
     pub name: &'static str,
@@ -192,6 +211,11 @@ pub const KINDS: &[Damage] = damages![
             order.insert(rng.between(2, last - 1), post);
         }
         draft.put_order(&order)
+    },
+    "a post fitted just after the last of its neighbours": |draft, rng| {
+        if let Some(order) = without_later_neighbour(draft.board, rng) {
+            draft.put_order(&order)
+        }
     },
     // the degrees
     "one degree up, another down": |draft, rng| {
@@ -384,13 +408,6 @@ pub const KINDS: &[Damage] = damages![
     },
 ];
 
-/// The refusal that no block can get. As long as 12 and 13 don't come, each new
-/// post's run is a stretch of the contour, a ring of wires with v1 v2 among
-/// them. A post below position n with no later neighbour would have the whole
-/// contour around it, v1 following v2 there; so it would follow v1 at v2, and
-/// step 11 has found vn in that place.
-pub const CANNOT_COME: u16 = 14;
-
 /// Boards in pieces with the right number of entries and triangles everywhere:
 /// a plane piece (the first one's posts) beside one torus or more. Each comes
 /// with the number of posts of its plane piece.
@@ -450,8 +467,29 @@ mod tests {
                 }
             }
         }
-        for number in (1..CANNOT_COME).map(Some) {
+        for number in (1..=13).map(Some) {
             assert!(reached.contains(&number), "{number:?}");
+        }
+    }
+
+    /// The order aimed at 14 passes steps 1 to 11 and is refused at a position.
+    #[test]
+    fn a_post_without_later_neighbour_is_refused_by_12_or_13() {
+        let mut rng = Rng::new(8);
+        for round in 0..200 {
+            let mut board = random(Kind::Flipped, 6 + round / 4, &mut rng);
+            let Some(order) = without_later_neighbour(&board, &mut rng) else {
+                continue;
+            };
+            let n = order.len();
+            let moved = (0..n - 1).filter(|&i| {
+                let ring = &board.rings[order[i] as usize];
+                order[i + 1..].iter().all(|later| !ring.contains(later))
+            });
+            assert_eq!(moved.count(), 1);
+            board.order = order;
+            let refusal = paper::check(&board.block()).unwrap_err();
+            assert!((12..=13).contains(&refusal.number), "{refusal:?}");
         }
     }
 
@@ -475,7 +513,7 @@ mod tests {
             for _ in 0..100 {
                 let board = order_of_pieces(&rings, plane_posts, &mut rng);
                 let refusal = paper::check(&board.block()).unwrap_err();
-                assert!((12..=14).contains(&refusal.number), "{refusal:?}");
+                assert!((12..=13).contains(&refusal.number), "{refusal:?}");
             }
         }
     }

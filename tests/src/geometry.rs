@@ -1,4 +1,5 @@
-//! The third demand tested on what sheet wrote, with whole numbers alone.
+//! What sheet wrote tested with whole numbers alone: the third demand, and that
+//! no sheet is the mirror image of its rings.
 
 use crate::board::Board;
 
@@ -11,12 +12,18 @@ fn points(sheet: &[u16]) -> Vec<Point> {
     sheet.chunks_exact(2).map(point).collect()
 }
 
-/// The wires of stage k, with both ends among v1 to vk, by position counted from 0.
-fn wires(board: &Board, k: usize) -> Vec<(usize, usize)> {
+/// The position of each name, counted from 0.
+fn positions(board: &Board) -> Vec<usize> {
     let mut position = vec![0; board.posts()];
     for (i, &name) in board.order.iter().enumerate() {
         position[name as usize] = i;
     }
+    position
+}
+
+/// The wires of stage k, with both ends among v1 to vk, by position counted from 0.
+fn wires(board: &Board, k: usize) -> Vec<(usize, usize)> {
+    let position = positions(board);
     let mut wires = Vec::new();
     for (u, &name) in board.order[..k].iter().enumerate() {
         let ends = board.rings[name as usize].iter();
@@ -28,7 +35,29 @@ fn wires(board: &Board, k: usize) -> Vec<(usize, usize)> {
     wires
 }
 
-/// Above zero if c lies left of the line from a to b, below zero if right of it.
+/// The inner triangles of stage k by position counted from 0, each read at all
+/// three corners: u, a, b where b follows a at u and all three are placed. The
+/// outer triangle v2, v1, vn is left out, at whichever corner it is read.
+fn inner_triangles(board: &Board, k: usize) -> Vec<[usize; 3]> {
+    let position = positions(board);
+    let last = board.posts() - 1;
+    let outer = [[1, 0, last], [0, last, 1], [last, 1, 0]];
+    let mut triangles = Vec::new();
+    for (u, &name) in board.order[..k].iter().enumerate() {
+        let ring = &board.rings[name as usize];
+        for (i, &a) in ring.iter().enumerate() {
+            let b = ring[(i + 1) % ring.len()];
+            let triangle = [u, position[a as usize], position[b as usize]];
+            if triangle.iter().all(|&post| post < k) && !outer.contains(&triangle) {
+                triangles.push(triangle);
+            }
+        }
+    }
+    triangles
+}
+
+/// Twice the signed area of the triangle a, b, c: above zero if c lies left of
+/// the line from a to b, below zero if right of it.
 fn side(a: Point, b: Point, c: Point) -> i64 {
     (b.0 - a.0) * (c.1 - a.1) - (b.1 - a.1) * (c.0 - a.0)
 }
@@ -102,6 +131,24 @@ pub fn stage_fault(board: &Board, sheet: &[u16]) -> Option<String> {
     None
 }
 
+/// How many inner triangles the sheet of a stage has, if each turns the way its
+/// rings do: its signed area, from whichever corner, is above zero. Otherwise
+/// a triangle that doesn't, as in a mirror image.
+pub fn turning_triangles(board: &Board, sheet: &[u16]) -> Result<usize, String> {
+    let points = points(sheet);
+    let triangles = inner_triangles(board, points.len());
+    for &[u, a, b] in &triangles {
+        let area = side(points[u], points[a], points[b]);
+        if area <= 0 {
+            let corners = [u + 1, a + 1, b + 1];
+            return Err(format!(
+                "the triangle of positions {corners:?} has twice the area {area}"
+            ));
+        }
+    }
+    Ok(triangles.len() / 3)
+}
+
 /// What is wrong with the moves from one stage to a later one `steps` stages
 /// on, if anything: heights stay, and each step moves right by 0 to 2.
 pub fn moves_fault(before: &[u16], after: &[u16], steps: usize) -> Option<String> {
@@ -118,7 +165,9 @@ pub fn moves_fault(before: &[u16], after: &[u16], steps: usize) -> Option<String
 #[cfg(test)]
 mod tests {
     use super::*;
-    use crate::board::d;
+    use crate::board::{d, t};
+    use crate::boards::{random, KINDS};
+    use crate::rng::Rng;
 
     #[test]
     fn segments_meet_with_ends_counted() {
@@ -147,6 +196,53 @@ mod tests {
         assert!(stage_fault(&d(), &[0, 0, 6, 0, 1, 2, 3, 2, 3, 3]).is_some());
         assert!(stage_fault(&d(), &[0, 0, 6, 0, 3, 2, 3, 2, 3, 3]).is_some());
         assert!(stage_fault(&d(), &[0, 0, 7, 0, 3, 1, 3, 2, 3, 3]).is_some());
+    }
+
+    /// A sheet from behind: every column counted from the right.
+    fn mirrored(sheet: &[u16]) -> Vec<u16> {
+        let width = sheet.iter().step_by(2).max().unwrap();
+        let turned = |pair: &[u16]| [width - pair[0], pair[1]];
+        sheet.chunks_exact(2).flat_map(turned).collect()
+    }
+
+    #[test]
+    fn a_mirrored_sheet_is_caught() {
+        let stages: [&[u16]; 3] = [
+            &[0, 0, 2, 0, 1, 1],
+            &[0, 0, 4, 0, 2, 1, 2, 2],
+            &[0, 0, 6, 0, 3, 1, 3, 2, 3, 3],
+        ];
+        for (sheet, triangles) in stages.into_iter().zip([1, 3, 5]) {
+            assert_eq!(turning_triangles(&d(), sheet), Ok(triangles));
+            // No wire tells a mirror image: none meets another in it.
+            let mirrored = mirrored(sheet);
+            assert_eq!(stage_fault(&d(), &mirrored), None);
+            assert!(turning_triangles(&d(), &mirrored).is_err());
+        }
+        assert_eq!(turning_triangles(&t(), stages[0]), Ok(1));
+        assert!(turning_triangles(&t(), &mirrored(stages[0])).is_err());
+    }
+
+    #[test]
+    fn a_flat_triangle_is_caught() {
+        assert!(turning_triangles(&d(), &[0, 0, 6, 0, 3, 0, 3, 2, 3, 3]).is_err());
+    }
+
+    /// A board has 2n - 4 triangles, and at its last stage one is the outer one.
+    #[test]
+    fn one_triangle_is_left_out_at_the_last_stage() {
+        let mut boards = vec![t(), d()];
+        boards.extend(KINDS.map(|kind| random(kind, 30, &mut Rng::new(9))));
+        for board in boards {
+            let n = board.posts();
+            let inner = inner_triangles(&board, n);
+            assert_eq!(inner.len(), 3 * (2 * n - 5));
+            let before = inner_triangles(&board, n - 1);
+            assert!(before.iter().all(|triangle| inner.contains(triangle)));
+            let around_vn = inner.len() - before.len();
+            let degree = board.rings[board.order[n - 1] as usize].len();
+            assert_eq!(around_vn, 3 * (degree - 1));
+        }
     }
 
     #[test]

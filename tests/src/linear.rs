@@ -106,10 +106,7 @@ impl Board {
             let ring = lists.ring(order[k] as usize);
             let ends = find_run(ring, &position, k)?;
             if k < n - 1 {
-                run_ends[k] = ends.ok_or(Refusal {
-                    number: 14,
-                    place: k as u16 + 1,
-                })?;
+                run_ends[k] = ends.expect("only the last post has earlier neighbours alone");
             }
         }
         Ok(Board {

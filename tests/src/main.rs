@@ -2,10 +2,11 @@
 //! compared with what the paper says. It ends at the first difference.
 
 use outside::board::{d, mend_sum, t, Board};
-use outside::boards::{self, every_board, random, Kind, KINDS};
-use outside::compare::{fails, Tester};
+use outside::boards::{self, every_board, permute, random, Kind, KINDS};
+use outside::compare::{fails, passes_step_11, Tester};
+use outside::contours::{broken_at, Condition};
 use outside::rng::Rng;
-use outside::{cases, damage, ffi};
+use outside::{cases, damage, ffi, text};
 use std::time::Instant;
 
 /// The one seed of the whole run.
@@ -19,6 +20,10 @@ const HUGE: [usize; 5] = [
     usize::MAX / 2 + 1,
     usize::MAX,
 ];
+
+/// The refusals of the table, each of which must come up. 14 is retired: no
+/// block could show it.
+const REFUSALS: [usize; 16] = [1, 2, 3, 4, 5, 6, 7, 8, 9, 10, 11, 12, 13, 15, 16, 17];
 
 fn main() {
     println!("outside: answers come from {}", ffi::ANSWERED_BY);
@@ -83,12 +88,16 @@ struct Run {
 impl Run {
     fn part(&mut self, name: &str, body: impl FnOnce(&mut Run)) {
         let (calls, start) = (self.tester.calls, Instant::now());
+        let orders = self.tester.conditions.orders();
         body(self);
         let calls = self.tester.calls - calls;
-        println!(
-            "{name}: {calls} calls, {:.1} s",
-            start.elapsed().as_secs_f64()
-        );
+        let orders = self.tester.conditions.orders() - orders;
+        let against = match orders {
+            0 => String::new(),
+            _ => format!(" {orders} orders against co1 to co3,"),
+        };
+        let seconds = start.elapsed().as_secs_f64();
+        println!("{name}: {calls} calls,{against} {seconds:.1} s");
     }
 
     fn end(self) {
@@ -96,12 +105,33 @@ impl Run {
         println!("replies by number (0: accepted):");
         for (number, count) in tester.replies.iter().enumerate() {
             println!("  {number:2}: {count}");
-            let can_come = number != usize::from(damage::CANNOT_COME);
-            assert_eq!(*count > 0, can_come, "reply {number} came {count} times");
+            let may_come = number == 0 || REFUSALS.contains(&number);
+            assert_eq!(*count > 0, may_come, "reply {number} came {count} times");
         }
+        println!("each number that may come came; 14, which is retired, did not");
         println!(
             "{} sheets tested pair of wires by pair of wires, {} pairs of stages for moves",
             tester.sheets, tester.pairs_of_stages
+        );
+        println!(
+            "{} inner triangles on these sheets, each turned as its rings say",
+            tester.triangles
+        );
+        let conditions = tester.conditions;
+        println!(
+            "{} orders beyond step 11 against co1 to co3: {} accepted keep them at every stage, \
+             {} at some stages,",
+            conditions.orders(),
+            conditions.kept,
+            conditions.kept_at_some_stages
+        );
+        println!(
+            "  refused: co1 is broken first in {}, co2 in {}, co3 in {}",
+            conditions.co1, conditions.co2, conditions.co3
+        );
+        println!(
+            "{} contours told by records, each the exterior face of its stage",
+            tester.contours
         );
         println!("{:.1} s in all", self.started.elapsed().as_secs_f64());
         println!("outside: {} calls compared, 0 differences", tester.calls);
@@ -149,6 +179,15 @@ impl Run {
         }
     }
 
+    /// Compare the reply to any block with document 002's conditions.
+    fn conditions_of_block(&mut self, block: &[u8]) {
+        let reply = self.tester.check(block);
+        if passes_step_11(reply) {
+            let board = text::parse(&text::show(block).text).expect("it is whole");
+            self.tester.conditions(&board, reply);
+        }
+    }
+
     /// A right board must be accepted.
     fn accepted(&mut self, board: &Board) -> Vec<u8> {
         let block = board.block();
@@ -186,6 +225,7 @@ fn every_small_board(run: &mut Run) {
                 let block = run.accepted(&board);
                 run.everything(&block, n);
                 run.tester.geometry(&board, &stages(n));
+                run.tester.contours(&board);
             }
         });
         println!("  {n} posts: {count} boards with orders, each under {disguises} names");
@@ -198,22 +238,24 @@ fn every_order_of_small_boards(run: &mut Run) {
             let mut board = boards::disguised(board, &mut run.rng);
             board.order.sort_unstable();
             permute(&mut board, 0, &mut |board| {
-                let _ = run.tester.check(&board.block());
+                let reply = run.tester.check(&board.block());
+                run.tester.conditions(board, reply);
+                run.tester.forced_runs(board, reply);
             });
         });
     }
-}
-
-/// Visit the board with every arrangement of its order from position `from` on.
-fn permute(board: &mut Board, from: usize, visit: &mut dyn FnMut(&Board)) {
-    if from == board.posts() {
-        return visit(board);
-    }
-    for i in from..board.posts() {
-        board.order.swap(from, i);
-        permute(board, from + 1, visit);
-        board.order.swap(from, i);
-    }
+    let forced = &run.tester.forced;
+    println!(
+        "  of {} orders that pass steps 1 to 11 {} have an earlier and a later neighbour \
+         everywhere and one run,",
+        forced.orders,
+        forced.with_two + forced.with_one
+    );
+    println!(
+        "  {} with two earlier ones everywhere, accepted, {} with one somewhere, refused by 12",
+        forced.with_two, forced.with_one
+    );
+    assert!(forced.with_one > 0, "one earlier neighbour never came up");
 }
 
 fn every_byte_changed(run: &mut Run) {
@@ -240,8 +282,10 @@ fn middling_boards(run: &mut Run) {
             let board = random(kind, n, &mut run.rng);
             let block = run.accepted(&board);
             run.tester.geometry(&board, &stages(n));
+            run.tester.conditions(&board, Ok(n as u16));
             if n < 20 {
                 run.everything(&block, n);
+                run.tester.contours(&board);
                 continue;
             }
             for stage in 3..=n {
@@ -261,6 +305,9 @@ fn large_boards(run: &mut Run) {
             let block = run.accepted(&board);
             run.something(&block, n, 30);
             run.tester.geometry(&board, &sample_of_stages(n));
+            if n <= 500 {
+                run.tester.conditions_at(&board, &sample_of_stages(n));
+            }
         }
     }
     for habit in boards::HABITS {
@@ -303,8 +350,11 @@ fn damaged_blocks(run: &mut Run) {
 
 fn damage_each_way(run: &mut Run, board: &Board, times: usize) {
     for kind in damage::KINDS {
-        for block in damage::both(kind, board, &mut run.rng) {
-            run.something(&block, board.posts(), times);
+        let [damaged, mended] = damage::both(kind, board, &mut run.rng);
+        run.something(&damaged, board.posts(), times);
+        run.something(&mended, board.posts(), times);
+        if board.posts() <= 60 {
+            run.conditions_of_block(&mended);
         }
     }
 }
@@ -316,20 +366,28 @@ fn boards_in_pieces(run: &mut Run) {
             let mut board = damage::order_of_pieces(rings, *plane_posts, &mut run.rng);
             let disguised = boards::disguised(&board, &mut run.rng);
             in_pieces_refused(run, &disguised);
+            run.something(&disguised.block(), board.posts(), 1);
             // Any order at all, also with v1, v2, vn on a torus.
             run.rng.shuffle(&mut board.order);
             in_pieces_refused(run, &board);
+            run.something(&board.block(), board.posts(), 1);
         }
     }
     outer_triangle_on_the_torus(run);
 }
 
+/// A board in pieces is refused, and its last stage, which isn't connected,
+/// breaks co1.
 fn in_pieces_refused(run: &mut Run, board: &Board) {
     let block = board.block();
-    if run.tester.check(&block).is_ok() {
+    let reply = run.tester.check(&block);
+    if reply.is_ok() {
         fails("a board in pieces: it is accepted", &block);
     }
-    run.something(&block, board.posts(), 1);
+    run.tester.conditions(board, reply);
+    if broken_at(board, board.posts()) != Some(Condition::Co1) {
+        fails("a board in pieces: its last stage keeps co1", &block);
+    }
 }
 
 /// The seven-post torus beside T, every order of it with T's posts last but one.
@@ -345,10 +403,7 @@ fn outer_triangle_on_the_torus(run: &mut Run) {
         let mut order = seven.order.clone();
         order.splice(6..6, [7, 8, 9]);
         let rings = rings.clone();
-        let block = Board { order, rings }.block();
-        if run.tester.check(&block).is_ok() {
-            fails("a board in pieces: it is accepted", &block);
-        }
+        in_pieces_refused(run, &Board { order, rings });
     });
 }
 

@@ -58,7 +58,7 @@ struct Board {
     lists: Vec<Vec<usize>>,
 }
 
-/// Steps 1 to 14.
+/// Steps 1 to 13.
 fn accepted(block: &[u8]) -> Result<Board, Refusal> {
     let n = header(block)?;
     let order = order(block, n)?;
@@ -211,7 +211,15 @@ impl Board {
         ring.iter().map(|&v| self.positions[v] < k).collect()
     }
 
-    /// Steps 12, 13 and 14 at position k.
+    /// Steps 12 and 13 at position k.
+    ///
+    /// What is asserted after them is the claim that a refusal for a post
+    /// without later neighbours isn't needed: it is tried on every block that
+    /// comes here. As long as 12 and 13 don't come, each run is a stretch of
+    /// the contour, a ring of wires with v1 v2 among them. A post below position
+    /// n with earlier neighbours alone would have the whole contour around it,
+    /// and so v1 following v2 in its ring; then it would follow v1 at v2, where
+    /// step 11 has found vn.
     fn canonical_at(&self, k: usize) -> Result<(), Refusal> {
         let earlier = self.earlier(k);
         if earlier.iter().filter(|&&is| is).count() < 2 {
@@ -220,9 +228,11 @@ impl Board {
         if run_starts(&earlier).len() > 1 {
             return refuse(13, k);
         }
-        if k < self.n && earlier.iter().all(|&is| is) {
-            return refuse(14, k);
-        }
+        assert!(
+            k == self.n || earlier.contains(&false),
+            "the claim that no block can show 14: position {k} passes 12 and 13 \
+             and has no later neighbour"
+        );
         Ok(())
     }
 
