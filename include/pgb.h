@@ -4,7 +4,8 @@
  * pointer (an empty block or buffer is a length of 0 with any non-null pointer), nor a length beyond what the pointer has, nor a buffer that
  * overlaps the block. Calls keep nothing between them and use at most 64 KB of stack.
  *
- * reply: number * 65536 + value; number 0 = accepted (value: n for check, 2k for sheet, 0 for post), else the refusal's number with its place.
+ * reply: number * 65536 + value; number 0 = accepted (value: n for check, 2k for sheet, 0 for post), else the refusal's number with its place:
+ * 1 to 13 for check, and also 15 to 17 for sheet and post. 14 is retired: it is never given, and its number is not used again.
  */
 #ifndef PGB_H
 #define PGB_H
