@@ -204,7 +204,9 @@ module _ (G : List (List ℕ)) (vs : List ℕ) (A : Passes G vs) (k : ℕ) (h : 
   at-all : ((a : ℕ) → In a (ring G (post vs (k + 1))) → In a (take k vs)) → (post vs 1 ≡ s .p) × (count (mem (take k vs)) (ring G (post vs (k + 1))) ≡ length (s .M) + 2)
   at-all all =
       let l = ring G (post vs (k + 1)) in
-      let e = whole-is-last G F (post vs 1) (post vs 2) (post vs (length G)) (boarded-outer G vs (A .board)) (take k vs) (stage G (take k vs) .contour) (post vs (k + 1)) contour new (s .p) near all in
+      let o = boarded-outer G vs (A .board) in
+      let K = stage G (take k vs) .contour in
+      let e = whole-is-last G F (post vs 1) (post vs 2) (post vs (length G)) o (take k vs) K (post vs (k + 1)) contour new (s .p) near all in
       let w = in-place l (post vs 1) (v1-near e) in
       let r = run-at-v1 G (take k vs) (post vs (k + 1)) once all (w .0) (w .1) (w .2 ∙ sym (getD-take k vs 0 0 (omega arith))) in
       let z : w .0 + 0 ≡ w .0 = omega arith in

@@ -124,7 +124,8 @@ module _ (at ents vs rank : List ℕ) (A : Accepted at ents vs rank) (k : ℕ) (
       names : (a : ℕ) → In a (stage (held at ents) (take k vs) .placed) → a < length vs
       names a q =
           let w = in-take k vs a (subst (In a) placed-is q) in
-          omega (arith, many, subst (λ (c : ℕ). c < length (held at ents)) (w .3) (boarded-names G vs (A .passes .board) .below (getD vs (w .0) 0) (place-in vs (w .0) (w .2))))
+          let b = boarded-names G vs (A .passes .board) .below (getD vs (w .0) 0) (place-in vs (w .0) (w .2)) in
+          omega (arith, many, subst (λ (c : ℕ). c < length (held at ents)) (w .3) b)
 
       few : length (stage (held at ents) (take k vs) .placed) ≤ 1000
       few = omega (arith, ap length placed-is, length-take-le k vs (omega arith), A .most)

@@ -20,13 +20,15 @@ use Rattle.lamp.specs.Lamp.{Row, blockRows, positionRows, orderRows, che
 use Rattle.lamp.specs.Given.{refused, given, NoneApplies}
 use Rattle.lamp.specs.Refusals.{numberOf}
 use Rattle.lamp.specs.declared.Refusal.{Refusal}
-use Rattle.lamp.specs.declared.Refusal.the-variants.{Short, Mark, Version, Posts, Length, Sum, Order, Degrees, Ring, Triangle, Outer, Few, Broken, Stage, Room, Name}
+use Rattle.lamp.specs.declared.Refusal.the-variants.{Short, Mark, Version, Posts, Length, Sum, Order, Degrees}
+use Rattle.lamp.specs.declared.Refusal.the-variants.{Ring, Triangle, Outer, Few, Broken, Stage, Room, Name}
 use Rattle.lamp.specs.Retired.{retired, retiredRow, paperPositionRows, paperOrderRows, paperRows, NoneIs, Retirement}
 use Rattle.lamp.proofs.Given.{given-end, given-skip, given-stop, given-alike, given-none, given-says, not-both}
 use Rattle.lamp.proofs.Accepts.{lists-count, none-boarded, none-position}
 
 -- ---- a reply's number is that of a row
-pub none-given : {A : Type 0} (answer : List ℕ → A) (s : List ℕ) (rows : List Row) (number place : ℕ) → NoneIs number rows → given rows s answer ≢ refused number place
+pub none-given : {A : Type 0} (answer : List ℕ → A) (s : List ℕ) (rows : List Row) (number place : ℕ) → NoneIs number rows
+    → given rows s answer ≢ refused number place
 none-given answer s [] number place h e = not-both (sym e ∙ given-end s answer)
 none-given answer s (r ∷ rows) number place h e = go (r .when s) refl (none-given answer s rows number place (h .1))
   where
@@ -105,9 +107,11 @@ module _ (s : List ℕ) (h : NoneApplies blockRows s) where
   passed k l b p =
       let B = none-boarded s h in
       let n = lists-count s in
+      let F = boarded-faces G vs B in
+      let o = boarded-outer G vs B in
+      let N = boarded-names G vs B in
       false-and (ltb k (posts s)) (not (oneLater G (later vs k) (post vs k)))
-      (λ t. ap not
-      (never-refused-14 G vs (boarded-faces G vs B) (boarded-outer G vs B) (boarded-names G vs B) k l (omega (arith, ltb-true k (posts s) t, n)) b (none-position s k p .0)))
+      (λ t. ap not (never-refused-14 G vs F o N k l (omega (arith, ltb-true k (posts s) t, n)) b (none-position s k p .0)))
 
   next : (k : ℕ) → Before k → NoneApplies (positionRows k) s → Before (suc k)
   next k b p j l m = go (ℕ-discrete j k)
@@ -150,7 +154,8 @@ same : {A : Type 0} (answer : List ℕ → A) (after : List Row) (s : List ℕ) 
 unfolding paperRows checkRows
 same answer after s =
     ap (λ (l : List Row). given l s answer) (append-assoc blockRows (paperOrderRows s) after)
-    ∙ given-alike s answer blockRows (paperOrderRows s ++ after) (orderRows s ++ after) (λ h. from-position s h answer after (posts s - 2) 3 (omega arith) (λ j a b. absurd (omega arith)))
+    ∙ given-alike s answer blockRows (paperOrderRows s ++ after) (orderRows s ++ after)
+    (λ h. from-position s h answer after (posts s - 2) 3 (omega arith) (λ j a b. absurd (omega arith)))
     ∙ ap (λ (l : List Row). given l s answer) (sym (append-assoc blockRows (orderRows s) after))
 
 sheet-never : {A : Type 0} (answer : List ℕ → A) (s : List ℕ) (k room place : ℕ)
@@ -158,7 +163,8 @@ sheet-never : {A : Type 0} (answer : List ℕ → A) (s : List ℕ) (k room plac
 unfolding sheetRows
 sheet-never answer s k room place = none-given answer s (checkRows s ++ stageRow k ∷ roomRow k room ∷ []) retired place (sheet-rows s k room)
 
-post-never : {A : Type 0} (answer : List ℕ → A) (s : List ℕ) (k u place : ℕ) → given (checkRows s ++ stageRow k ∷ nameRow u ∷ []) s answer ≢ refused retired place
+post-never : {A : Type 0} (answer : List ℕ → A) (s : List ℕ) (k u place : ℕ)
+    → given (checkRows s ++ stageRow k ∷ nameRow u ∷ []) s answer ≢ refused retired place
 unfolding postRows
 post-never answer s k u place = none-given answer s (checkRows s ++ stageRow k ∷ nameRow u ∷ []) retired place (post-rows s k u)
 

@@ -42,7 +42,8 @@ pub record Retirement : Type 1 where
   pub check : {A : Type 0} (answer : List ℕ → A) (s : List ℕ) (place : ℕ) → given (paperRows s) s answer ≢ refused retired place
   pub sheet : {A : Type 0} (answer : List ℕ → A) (s : List ℕ) (k room place : ℕ)
       → given (paperRows s ++ stageRow k ∷ roomRow k room ∷ []) s answer ≢ refused retired place
-  pub post : {A : Type 0} (answer : List ℕ → A) (s : List ℕ) (k u place : ℕ) → given (paperRows s ++ stageRow k ∷ nameRow u ∷ []) s answer ≢ refused retired place
+  pub post : {A : Type 0} (answer : List ℕ → A) (s : List ℕ) (k u place : ℕ)
+      → given (paperRows s ++ stageRow k ∷ nameRow u ∷ []) s answer ≢ refused retired place
   -- Its removal changes no reply, whatever rows follow.
   pub same : {A : Type 0} (answer : List ℕ → A) (after : List Row) (s : List ℕ) → given (paperRows s ++ after) s answer ≡ given (checkRows s ++ after) s answer
   -- Its number is not used again: no row of a service has it, and no refusal.

@@ -174,11 +174,14 @@ module _ (G : List (List ℕ)) (vs : List ℕ) where
         all = n;
         below = N .below;
         once = once-different vs (N .once);
-        two = λ k a b. two-says G vs k (post vs k) (ring-once G F (post vs k) (N .below (post vs k) (place-in vs (k - 1) (omega arith)))) (P .two k a (omega arith));
+        two = λ k a b.
+            let below = N .below (post vs k) (place-in vs (k - 1) (omega arith)) in
+            two-says G vs k (post vs k) (ring-once G F (post vs k) below) (P .two k a (omega arith));
         run = λ k a b. run-says G vs k (post vs k) (omega arith) (P .run k a (omega arith));
         later = λ k a b.
             later-says G vs k (post vs k)
-            (never-refused-14 G vs F (boarded-outer B) N k a (omega arith) (λ j c d. (P .two j c (omega arith), P .run j c (omega arith))) (P .two k a (omega arith)));
+            (never-refused-14 G vs F (boarded-outer B) N k a (omega arith) (λ j c d. (P .two j c (omega arith), P .run j c (omega arith)))
+            (P .two k a (omega arith)));
       }
 
   -- every post can be reached: each is wired to an earlier one
@@ -205,7 +208,8 @@ module _ (G : List (List ℕ)) (vs : List ℕ) where
             record {
               all = n;
               entries = λ k a b.
-                  says-position (length G) vs k (C .below (post vs k) (place-in vs (k - 1) (omega arith))) (post-new vs (different-once vs (C .once)) k a (omega arith));
+                  says-position (length G) vs k (C .below (post vs k) (place-in vs (k - 1) (omega arith)))
+                  (post-new vs (different-once vs (C .once)) k a (omega arith));
               degrees = λ u h. let x = some-near (post vs 1) u P h in says-degree G u (degree-least G u F (x .0) (x .1)) (degree-most G u F h);
               total = P .entries;
               rings = λ u h. says-ring G u (F .kept u h);

@@ -98,7 +98,8 @@ module _ (G : List (List ℕ)) (F : Faces G) (v1 v2 vn : ℕ) (o : After G v2 v1
           first = refl;
           second = refl;
           faces = λ u a b f i j k.
-              all-faces (After G) R (Accounted (T3 .B) v1 v2 vn) (λ u a b. turn-accounted) (v1 ∷ v2 ∷ []) v corner (λ u a b f i j k. absurd (flat u a b f i j k))
+              all-faces (After G) R (Accounted (T3 .B) v1 v2 vn) (λ u a b. turn-accounted) (v1 ∷ v2 ∷ []) v corner
+              (λ u a b f i j k. absurd (flat u a b f i j k))
               u a b f (last-to-first u (v1 ∷ v2 ∷ []) v i) (last-to-first a (v1 ∷ v2 ∷ []) v j) (last-to-first b (v1 ∷ v2 ∷ []) v k);
         }
 
@@ -134,7 +135,10 @@ module _ (G : List (List ℕ)) (F : Faces G) (v1 v2 vn : ℕ) (o : After G v2 v1
     new-face : (a b : ℕ) → After G v a b → In a (t .placed) → In b (t .placed) → Accounted (T' .B) v1 v2 vn v a b
     new-face a b f i j =
         adj-cases a b (S .p ∷ S .M) (S .q) (S .p ∷ []) (λ h. over-u (tri-new G t v S (D .tied) F a b h))
-        (elim [ inl e ↦ let c = closes (rw (← (e .0), ← (e .1)) at f) in outer (inr (inr (c .0, sym (e .0) ∙ c .1, sym (e .1) ∙ c .2))) | inr h ↦ absurd (elim h [ inl e ↦ e .1 | inr k ↦ k ]) ])
+        (elim [
+          | inl e ↦ let c = closes (rw (← (e .0), ← (e .1)) at f) in outer (inr (inr (c .0, sym (e .0) ∙ c .1, sym (e .1) ∙ c .2)))
+          | inr h ↦ absurd (elim h [ inl e ↦ e .1 | inr k ↦ k ])
+        ])
         (S .the-run .inner a b f i j)
 
     still : {u a b : ℕ} → Accounted (D .tied .B) v1 v2 vn u a b → Accounted (T' .B) v1 v2 vn u a b
@@ -152,7 +156,8 @@ module _ (G : List (List ℕ)) (F : Faces G) (v1 v2 vn : ℕ) (o : After G v2 v1
           first = rw e (List·getD-append (t .placed) (v ∷ []) 0 0 (omega arith) ∙ D .first);
           second = rw e (List·getD-append (t .placed) (v ∷ []) 0 1 (omega arith) ∙ D .second);
           faces = λ u a b f i j k.
-              all-faces (After G) R (Accounted (T' .B) v1 v2 vn) (λ u a b. turn-accounted) (t .placed) v new-face (λ u a b f i j k. still (D .faces u a b f i j k))
+              all-faces (After G) R (Accounted (T' .B) v1 v2 vn) (λ u a b. turn-accounted) (t .placed) v new-face
+              (λ u a b f i j k. still (D .faces u a b f i j k))
               u a b f (last-to-first u (t .placed) v (rw e at i)) (last-to-first a (t .placed) v (rw e at j)) (last-to-first b (t .placed) v (rw e at k));
         }
 
