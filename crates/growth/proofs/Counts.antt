@@ -118,10 +118,8 @@ module _ (G : List (List ℕ)) (A : Faces G) where
   module _ (z : ℕ) (S : List ℕ) (o : Once S) where
     pub hit : (a b : ℕ) → After G z a b → In b S → w z a ≡ sum (t z a) S
     hit a b f i =
-        flag-yes (in-dec a (ring G z)) (around-in (ring G z) a b f .0)
-        ∙ sym (
-        sum-hit (t z a) S b o i (flag-yes (adj-dec (around (ring G z)) a b) f)
-        (λ c j ne. t-no z a c (λ g. ne (R .next-one z a c b g f))))
+        let s = sum-hit (t z a) S b o i (flag-yes (adj-dec (around (ring G z)) a b) f) (λ c j ne. t-no z a c (λ g. ne (R .next-one z a c b g f))) in
+        flag-yes (in-dec a (ring G z)) (around-in (ring G z) a b f .0) ∙ sym s
 
     pub leaves : (a b : ℕ) → After G z a b → ¬ (In b S) → w z a ≡ suc (sum (t z a) S)
     leaves a b f m =
@@ -221,7 +219,9 @@ module _ (G : List (List ℕ)) (A : Faces G) where
     pub total-darts : D S ≡ sumOf (map length G)
     unfolding darts
     total-darts =
-        sum-same _ (degree G) S (λ u i.
-        sum-members (ring G u) S (ring-once G A u (P .small u i)) (P .once) (λ a h. every a (entry-below G A u a h)))
+        sum-same _ (degree G) S all-of
         ∙ sum-degrees G (length G) (omega arith) S (P .once) (P .small) every
         ∙ ap (λ (l : List (List ℕ)). sumOf (map length l)) (take-length G)
+      where
+        all-of : (u : ℕ) → In u S → sum (w u) S ≡ degree G u
+        all-of u i = sum-members (ring G u) S (ring-once G A u (P .small u i)) (P .once) (λ a h. every a (entry-below G A u a h))
