@@ -16,7 +16,7 @@ use Rattle.order.proofs.Contour.{Rings}
 use Rattle.order.proofs.Runs.{rings}
 use Rattle.growth.proofs.Sums.{flag, flag-yes, flag-no, flag-same, sum, sum-same, sum-zero, sum-hit, sum-one-off, sum-cut}
 use Rattle.growth.proofs.Sums.{darts, corners, cornersAt, darts-more, corners-more}
-use Rattle.growth.proofs.Walks.{adj-dec}
+use Rattle.growth.proofs.Walks.{adj-dec, filled}
 
 -- the posts of a list: each a post, and each once
 pub record Chosen (n : ℕ) (S : List ℕ) : Type 0 where
@@ -180,11 +180,7 @@ module _ (G : List (List ℕ)) (A : Faces G) where
 
     pub leaves-once : (a b : ℕ) → In a S → After G z a b → ¬ (In b S) → cornersAt w t z S < sum (w z) S
     unfolding cornersAt
-    leaves-once a b i f m = let r = towards S in omega (arith, r .1, some (r .0) (r .2 a b i f m))
-      where
-        some : (l : List ℕ) → In b l → 0 < length l
-        some [] h = absurd h
-        some (x ∷ l) h = omega arith
+    leaves-once a b i f m = let r = towards S in omega (arith, r .1, filled (r .0) b (r .2 a b i f m))
 
     pub leaves-most : sum (w z) S ≤ suc (cornersAt w t z S)
         → (a b a′ b′ : ℕ) → In a S → After G z a b → ¬ (In b S) → In a′ S → After G z a′ b′ → ¬ (In b′ S) → b ≡ b′
