@@ -22,7 +22,8 @@ use Rattle.order.proofs.Sound.{Passes, sound-passes}
 use Rattle.growth.specs.Co.{Face, ContourWire, ContourPost, ContourList}
 use Rattle.growth.specs.Co.Face.{same, turn, cross}
 use Rattle.growth.proofs.Named.{post-in, post-one, not-yet}
-use Rattle.growth.proofs.ToStages.{sides, sides-only, leave-at, leave-wire, base-wire}
+use Rattle.growth.proofs.Triangles.{sides, sides-only}
+use Rattle.growth.proofs.ToStages.{leave-at, leave-wire, base-wire}
 
 -- a post is on C_k if it is in the list, and only then
 pub on-list : (G : List (List ℕ)) (vs : List ℕ) (k : ℕ) (K : List ℕ) → ContourList G vs k K → (a : ℕ) → ContourPost G vs k a ↔ In a K
