@@ -9,7 +9,7 @@ use native.Mathlib.Decide.{ℕ-discrete, decLt}
 use lib.ListN.{length, getD, take, length-take}
 use lib.Seq.{take-suc}
 use Rattle.words.specs.Lists.{In}
-use Rattle.words.specs.Positions.{post, later, Earlier, Later}
+use Rattle.words.specs.Positions.{post, Earlier, Later}
 use Rattle.words.proofs.Lists.{in-left, in-right, in-cases, in-dec}
 use Rattle.words.proofs.Tests.{different-once}
 use Rattle.words.proofs.Positions.{take-in, earlier-in}
