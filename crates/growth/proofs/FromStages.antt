@@ -8,7 +8,7 @@ use native.Mathlib.Omega.{arith}
 use native.Mathlib.Decide.{ℕ-discrete}
 use lib.ListN.{length, getD, take}
 use Rattle.words.specs.Lists.{In}
-use Rattle.words.specs.Positions.{post, later, Earlier, Later}
+use Rattle.words.specs.Positions.{post, Earlier, Later}
 use Rattle.words.proofs.Lists.{in-dec, all-there}
 use Rattle.words.proofs.Tests.{different-once}
 use Rattle.words.proofs.Positions.{in-take, post-suc, later-in, in-later, later-new, earlier-or}
