@@ -21,8 +21,9 @@ use Rattle.order.proofs.Growth.{Names, contour-at}
 use Rattle.order.proofs.Sound.{Passes, sound-passes}
 use Rattle.growth.specs.Co.{Face, ContourWire, ContourPost, ContourList}
 use Rattle.growth.specs.Co.Face.{same, turn, cross}
-use Rattle.growth.proofs.Named.{post-in, post-one, not-yet}
-use Rattle.growth.proofs.ToStages.{sides, sides-only, leave-at, leave-wire, base-wire}
+use Rattle.growth.proofs.Named.{post-in, post-apart, not-yet}
+use Rattle.growth.proofs.Triangles.{sides, sides-only}
+use Rattle.growth.proofs.ToStages.{leave-at, leave-wire, base-wire}
 
 -- a post is on C_k if it is in the list, and only then
 pub on-list : (G : List (List ℕ)) (vs : List ℕ) (k : ℕ) (K : List ℕ) → ContourList G vs k K → (a : ℕ) → ContourPost G vs k a ↔ In a K
@@ -40,26 +41,48 @@ module _ (G : List (List ℕ)) (A : Faces G) (placed : List ℕ) (v1 v2 vn : ℕ
   pub exterior-waits : {u v w : ℕ} → Face G placed v2 v1 vn u v w → ¬ (In u placed × In v placed × In w placed)
   exterior-waits same t = m (t .2)
   exterior-waits (turn f) t = exterior-waits f (t .2, t .0, t .1)
-  exterior-waits (cross {u} {v} {w} {x} f nw g) t = nw (t .1, t .0, entry-returned G A v u (around-in (ring G v) u x (follows-after G v u x g) .0))
+  exterior-waits (cross {u} {v} {w} {x} f nw g) t =
+      nw (t .1, t .0, entry-returned G A v u (around-in (ring G v) u x (follows-after G v u x g) .0))
 
 -- the run of vn, from v1 to v2, is the whole contour
-module _ (F : ℕ → ℕ → ℕ → Type 0) (v1 v2 v : ℕ) (done : List ℕ) (p : ℕ) (M : List ℕ) (q : ℕ) (X Y : List ℕ) (U : Run F done v p M q) (C : Contour F v1 v2 done (X ++ p ∷ (M ++ q ∷ Y)))
+module _ (F : ℕ → ℕ → ℕ → Type 0) (v1 v2 v : ℕ) (done : List ℕ) (p : ℕ) (M : List ℕ) (q : ℕ) (X Y : List ℕ)
+    (U : Run F done v p M q) (C : Contour F v1 v2 done (X ++ p ∷ (M ++ q ∷ Y)))
     (cut : ¬ (Adj (p ∷ (M ++ q ∷ [])) v2 v1)) (f : F v v2 v1) (i1 : In v1 done) (i2 : In v2 done) where
   ends : (q ≡ v2) × (p ≡ v1)
-  ends = adj-cases v2 v1 (p ∷ M) q (p ∷ []) (λ h. absurd (cut h)) (elim [ inl e ↦ e | inr i ↦ absurd (elim i [ inl e ↦ e .1 | inr j ↦ j ]) ]) (U .inner v2 v1 f i2 i1)
+  ends = adj-cases v2 v1 (p ∷ M) q (p ∷ []) (λ h. absurd (cut h)) closing (U .inner v2 v1 f i2 i1)
+    where
+      closing : Adj (q ∷ p ∷ []) v2 v1 → (q ≡ v2) × (p ≡ v1)
+      closing (inl e) = e
+      closing (inr (inl e)) = absurd (e .1)
+      closing (inr (inr j)) = absurd j
 
   pub last-run : X ++ p ∷ v ∷ q ∷ Y ≡ v1 ∷ v ∷ v2 ∷ []
-  last-run = go X Y (first-alone X p (M ++ q ∷ Y) (C .once) (subst (Head (X ++ p ∷ (M ++ q ∷ Y))) (sym (ends .1)) (C .first))) (last-alone v1 (X ++ p ∷ M) q Y (subst Once a (C .once)) (ap (lastOf v1) (sym a) ∙ C .last ∙ sym (ends .0))) (ends .1) (ends .0)
+  last-run = go X Y no-X no-Y (ends .1) (ends .0)
     where
       a : X ++ p ∷ (M ++ q ∷ Y) ≡ (X ++ p ∷ M) ++ q ∷ Y
       a = sym (append-assoc X (p ∷ M) (q ∷ Y))
+
+      no-X : X ≡ []
+      no-X = first-alone X p (M ++ q ∷ Y) (C .once) (subst (Head (X ++ p ∷ (M ++ q ∷ Y))) (sym (ends .1)) (C .first))
+
+      no-Y : Y ≡ []
+      no-Y = last-alone v1 (X ++ p ∷ M) q Y (subst Once a (C .once)) (ap (lastOf v1) (sym a) ∙ C .last ∙ sym (ends .0))
 
       go : (X Y : List ℕ) → X ≡ [] → Y ≡ [] → p ≡ v1 → q ≡ v2 → X ++ p ∷ v ∷ q ∷ Y ≡ v1 ∷ v ∷ v2 ∷ []
       go X Y ex ey ep eq = rw (ex, ey, ep, eq)
 
 module _ (G : List (List ℕ)) (vs : List ℕ) (P : Plane G (post vs 1) (post vs 2) (post vs (length G))) (O : Canonical G vs) where
+  abbrev v1 : ℕ
+  v1 = post vs 1
+
+  abbrev v2 : ℕ
+  v2 = post vs 2
+
+  abbrev vn : ℕ
+  vn = post vs (length G)
+
   A : Faces G
-  A = faces-plane G (post vs 1) (post vs 2) (post vs (length G)) P
+  A = faces-plane G v1 v2 vn P
 
   n : length vs ≡ length G
   n = O .all
@@ -67,113 +90,149 @@ module _ (G : List (List ℕ)) (vs : List ℕ) (P : Plane G (post vs 1) (post vs
   N : Names (length G) vs
   N = record { all = O .all; below = O .below; once = different-once vs (O .once) }
 
-  outer : After G (post vs 2) (post vs 1) (post vs (length G))
-  outer = follows-after G (post vs 2) (post vs 1) (post vs (length G)) (P .outer)
+  outer : After G v2 v1 vn
+  outer = follows-after G v2 v1 vn (P .outer)
 
   module _ (k : ℕ) (h : 3 ≤ k) (l : k < length G) (K : List ℕ) (C : Contour (After G) (post vs 1) (post vs 2) (take k vs) K) where
+    abbrev first-k : List ℕ
+    first-k = take k vs
+
+    vn-waits : ¬ (In vn first-k)
+    vn-waits = not-yet G vs N k (length G) l (omega arith)
+
     -- a wire of C_k is one of the contour's circle
     pub wire-circle : (x y : ℕ) → ContourWire G vs k x y → Adj (post vs 2 ∷ K) x y
     wire-circle x y w =
         let z = w .1 .0 in
         C .edge x y z (w .0 .0) (w .0 .1)
-        (λ i. exterior-waits G A (take k vs) (post vs 1) (post vs 2) (post vs (length G)) (not-yet G vs N k (length G) l (omega arith)) (w .1 .2) (w .0 .0, w .0 .1, i))
-        (follows-after G x y z (w .1 .1))
+        (λ i. exterior-waits G A first-k v1 v2 vn vn-waits (w .1 .2) (w .0 .0, w .0 .1, i)) (follows-after G x y z (w .1 .1))
 
     -- and the other way round: from v1 on, each post with a waiting neighbour has such a wire to the next one
-    chain : (Z X : List ℕ) (a : ℕ) → K ≡ X ++ a ∷ Z → In a (take k vs) → (x : ℕ) → In x (ring G a) → ¬ (In x (take k vs)) → (p q : ℕ) → Adj (a ∷ Z) p q → ContourWire G vs k p q
+    abbrev Along : ℕ → List ℕ → Type 0
+    Along a Z = In a first-k → (x : ℕ) → In x (ring G a) → ¬ (In x first-k) → (p q : ℕ) → Adj (a ∷ Z) p q → ContourWire G vs k p q
+
+    chain : (Z X : List ℕ) (a : ℕ) → K ≡ X ++ a ∷ Z → Along a Z
     chain [] X a e i x j m p q (inl g) = absurd (g .1)
     chain [] X a e i x j m p q (inr g) = absurd g
-    chain (z ∷ Z) X a e i x j m p q g = go (leave-at G vs P O k h (omega (arith, n)) a x i j m) (chain Z (X ++ a ∷ []) z (e ∙ sym (append-assoc X (a ∷ []) (z ∷ Z))))
+    chain (z ∷ Z) X a e i x j m p q g =
+        go (leave-at G vs P O k h (omega (arith, n)) a x i j m) (chain Z (X ++ a ∷ []) z (e ∙ sym (append-assoc X (a ∷ []) (z ∷ Z))))
       where
         single : Once (X ++ a ∷ z ∷ Z)
         single = subst Once e (C .once)
 
-        go : (s y : ℕ) × After G a s y × In s (take k vs) × ¬ (In y (take k vs)) → (In z (take k vs) → (x : ℕ) → In x (ring G z) → ¬ (In x (take k vs)) → (p q : ℕ) → Adj (z ∷ Z) p q → ContourWire G vs k p q) → ContourWire G vs k p q
-        go t r = on (is (C .edge a (t .0) (t .1) i (t .3) (t .4) (t .2))) g
+        go : (s y : ℕ) × After G a s y × In s first-k × ¬ (In y first-k) → Along z Z → ContourWire G vs k p q
+        go (s, y, f, si, ym) r = on (is (C .edge a s y i si ym f)) g
           where
-            is : Adj (post vs 2 ∷ K) a (t .0) → z ≡ t .0
-            is (inl b) = absurd (no-more (last-alone (post vs 1) X a (z ∷ Z) single (ap (lastOf (post vs 1)) (sym e) ∙ C .last ∙ b .0)))
+            is : Adj (v2 ∷ K) a s → z ≡ s
+            is (inl b) = absurd (no-more (last-alone v1 X a (z ∷ Z) single (ap (lastOf v1) (sym e) ∙ C .last ∙ b .0)))
               where
                 no-more : z ∷ Z ≡ [] → ⊥
                 no-more q = omega (arith, ap length q)
-            is (inr b) = once-next a (t .0) X (z ∷ Z) single (subst (λ (r : List ℕ). Adj r a (t .0)) e b)
+            is (inr b) = once-next a s X (z ∷ Z) single (subst (λ (r : List ℕ). Adj r a s) e b)
 
-            on : z ≡ t .0 → Adj (a ∷ z ∷ Z) p q → ContourWire G vs k p q
-            on ez (inl b) = rw (← (b .0), ← (b .1), ez) (leave-wire G vs P O k h (omega (arith, n)) a (t .0) (t .1) i (t .2) (t .3) (t .4))
-            on ez (inr b) = r (rw ez (t .3)) (t .1) (rw ez (around-in (ring G (t .0)) (t .1) a (A .triangle a (t .0) (t .1) (t .2)) .0)) (t .4) p q b
+            on : z ≡ s → Adj (a ∷ z ∷ Z) p q → ContourWire G vs k p q
+            on ez (inl b) = rw (← (b .0), ← (b .1), ez) (leave-wire G vs P O k h (omega (arith, n)) a s y i f si ym)
+            on ez (inr b) = r (rw ez si) y (rw ez (around-in (ring G s) y a (A .triangle a s y f) .0)) ym p q b
 
     pub circle-wire : (x y : ℕ) → Adj (post vs 2 ∷ K) x y → ContourWire G vs k x y
-    circle-wire x y (inl b) = rw (← (b .0), head-one K y (post vs 1) (b .1) (C .first)) (base-wire G vs P O k h (omega (arith, n)))
+    circle-wire x y (inl b) = rw (← (b .0), head-one K y v1 (b .1) (C .first)) (base-wire G vs P O k h (omega (arith, n)))
     circle-wire x y (inr b) = go K refl (C .first) b
       where
-        go : (L : List ℕ) → K ≡ L → Head L (post vs 1) → Adj L x y → ContourWire G vs k x y
+        v1-in : In v1 first-k
+        v1-in = post-in vs k 1 (omega arith) (omega arith) (omega (arith, n))
+
+        vn-near : In vn (ring G v1)
+        vn-near = around-in (ring G v1) vn v2 (A .triangle v2 v1 vn outer) .0
+
+        go : (L : List ℕ) → K ≡ L → Head L v1 → Adj L x y → ContourWire G vs k x y
         go [] e f b = absurd b
-        go (v ∷ Z) e f b =
-            chain Z [] v e (rw f (post-in vs k 1 (omega arith) (omega arith) (omega (arith, n)))) (post vs (length G)) (rw f (around-in (ring G (post vs 1)) (post vs (length G)) (post vs 2) (A .triangle (post vs 2) (post vs 1) (post vs (length G)) outer) .0))
-            (not-yet G vs N k (length G) l (omega arith)) x y b
+        go (v ∷ Z) e f b = chain Z [] v e (rw f v1-in) vn (rw f vn-near) vn-waits x y b
 
   -- ---- C_k as a list
-  written : (k : ℕ) (M : List ℕ) → Once (post vs 1 ∷ (M ++ post vs 2 ∷ [])) → ((x y : ℕ) → ContourWire G vs k x y ↔ Adj (post vs 2 ∷ post vs 1 ∷ (M ++ post vs 2 ∷ [])) x y)
-      → ContourList G vs k (post vs 1 ∷ (M ++ post vs 2 ∷ []))
+  written : (k : ℕ) (M : List ℕ) → Once (v1 ∷ (M ++ v2 ∷ []))
+      → ((x y : ℕ) → ContourWire G vs k x y ↔ Adj (v2 ∷ v1 ∷ (M ++ v2 ∷ [])) x y)
+      → ContourList G vs k (v1 ∷ (M ++ v2 ∷ []))
   written k M o w = record {
     between = M;
     is = refl;
-    once = once-different (post vs 1 ∷ (M ++ post vs 2 ∷ [])) o;
+    once = once-different (v1 ∷ (M ++ v2 ∷ [])) o;
     wires = λ x y. (
-      λ c. adj-cut _ x y (rw (around-cut (post vs 1) M (post vs 2 ∷ [])) (adj-turn x y (post vs 2) [] (post vs 1) M (w x y .0 c))),
-      λ t. w x y .1 (adj-turn x y (post vs 1) M (post vs 2) [] (cut-adj _ (t .0) x y (t .1) (sym (around-cut (post vs 1) M (post vs 2 ∷ [])) ∙ t .2))),
+      λ c. adj-cut _ x y (rw (around-cut v1 M (v2 ∷ [])) (adj-turn x y v2 [] v1 M (w x y .0 c))),
+      λ t. w x y .1 (adj-turn x y v1 M v2 [] (cut-adj _ (t .0) x y (t .1) (sym (around-cut v1 M (v2 ∷ [])) ∙ t .2))),
     );
   }
 
-  differ-12 : post vs 1 ≢ post vs 2
-  differ-12 e = entry-other G A (post vs 1) (post vs 2) (P .bottom) (sym e)
+  differ-12 : v1 ≢ v2
+  differ-12 e = entry-other G A v1 v2 (P .bottom) (sym e)
 
   -- below n: any list that has the contour's laws
-  pub contour-written : (k : ℕ) → 3 ≤ k → k < length G → (K : List ℕ) → Contour (After G) (post vs 1) (post vs 2) (take k vs) K → ContourList G vs k K
+  pub contour-written : (k : ℕ) → 3 ≤ k → k < length G
+      → (K : List ℕ) → Contour (After G) (post vs 1) (post vs 2) (take k vs) K → ContourList G vs k K
   contour-written k h l K C = go (two-ends K (long K (C .first) (C .last)))
     where
-      long : (K : List ℕ) → Head K (post vs 1) → lastOf (post vs 1) K ≡ post vs 2 → 2 ≤ length K
+      long : (K : List ℕ) → Head K v1 → lastOf v1 K ≡ v2 → 2 ≤ length K
       long [] f g = absurd f
       long (x ∷ []) f g = absurd (differ-12 (sym f ∙ g))
       long (x ∷ y ∷ K) f g = omega arith
 
       go : (p : ℕ) × (M : List ℕ) × (q : ℕ) × (K ≡ p ∷ (M ++ q ∷ [])) → ContourList G vs k K
-      go t =
-          let e : K ≡ post vs 1 ∷ (t .1 ++ post vs 2 ∷ []) = t .3 ∙ both (t .0) (t .1) (t .2) (subst (λ (r : List ℕ). Head r (post vs 1)) (t .3) (C .first)) (sym (last-append (post vs 1) (t .0 ∷ t .1) (t .2) []) ∙ ap (lastOf (post vs 1)) (sym (t .3)) ∙ C .last) in
-          subst (ContourList G vs k) (sym e) (written k (t .1) (subst Once e (C .once)) (λ x y. (λ c. subst (λ (r : List ℕ). Adj (post vs 2 ∷ r) x y) e (wire-circle k h l K C x y c), λ b. circle-wire k h l K C x y (subst (λ (r : List ℕ). Adj (post vs 2 ∷ r) x y) (sym e) b))))
+      go (p, M, q, c) = subst (ContourList G vs k) (sym e) (written k M (subst Once e (C .once)) (λ x y. (to x y, from x y)))
         where
-          both : (p : ℕ) (M : List ℕ) (q : ℕ) → p ≡ post vs 1 → q ≡ post vs 2 → p ∷ (M ++ q ∷ []) ≡ post vs 1 ∷ (M ++ post vs 2 ∷ [])
-          both p M q e f = cc
+          is-v1 : p ≡ v1
+          is-v1 = subst (λ (r : List ℕ). Head r v1) c (C .first)
+
+          is-v2 : q ≡ v2
+          is-v2 = sym (last-append v1 (p ∷ M) q []) ∙ ap (lastOf v1) (sym c) ∙ C .last
+
+          e : K ≡ v1 ∷ (M ++ v2 ∷ [])
+          e = rw (← is-v1, ← is-v2) c
+
+          to : (x y : ℕ) → ContourWire G vs k x y → Adj (v2 ∷ v1 ∷ (M ++ v2 ∷ [])) x y
+          to x y w = subst (λ (r : List ℕ). Adj (v2 ∷ r) x y) e (wire-circle k h l K C x y w)
+
+          from : (x y : ℕ) → Adj (v2 ∷ v1 ∷ (M ++ v2 ∷ [])) x y → ContourWire G vs k x y
+          from x y b = circle-wire k h l K C x y (subst (λ (r : List ℕ). Adj (v2 ∷ r) x y) (sym e) b)
 
   -- at n: the outer triangle
   module _ (three : 3 ≤ length G) where
     placed : (j : ℕ) → 1 ≤ j → j ≤ length G → In (post vs j) (take (length G) vs)
     placed j a b = post-in vs (length G) j a b (omega (arith, n))
 
-    around-outer : ContourWire G vs (length G) (post vs 2) (post vs 1) × ContourWire G vs (length G) (post vs 1) (post vs (length G)) × ContourWire G vs (length G) (post vs (length G)) (post vs 2)
-    around-outer =
-        sides G A (take (length G) vs) (post vs 2) (post vs 1) (post vs (length G)) outer (placed 2 (omega arith) (omega arith)) (placed 1 (omega arith) (omega arith)) (placed (length G) (omega arith) (omega arith))
+    in1 : In v1 (take (length G) vs)
+    in1 = placed 1 (omega arith) (omega arith)
+
+    in2 : In v2 (take (length G) vs)
+    in2 = placed 2 (omega arith) (omega arith)
+
+    inn : In vn (take (length G) vs)
+    inn = placed (length G) (omega arith) (omega arith)
+
+    around-outer : ContourWire G vs (length G) v2 v1 × ContourWire G vs (length G) v1 vn × ContourWire G vs (length G) vn v2
+    around-outer = sides G A (take (length G) vs) v2 v1 vn outer in2 in1 inn
 
     pub last-written : ContourList G vs (length G) (post vs 1 ∷ post vs (length G) ∷ post vs 2 ∷ [])
-    last-written = written (length G) (post vs (length G) ∷ []) single (λ x y. (to x y, from x y))
+    last-written = written (length G) (vn ∷ []) single (λ x y. (to x y, from x y))
       where
-        apart : (i j : ℕ) → 1 ≤ i → i < j → j ≤ length G → post vs i ≢ post vs j
-        apart i j a b c e = let q = post-one G vs N i j a (omega arith) (omega arith) c e in omega arith
+        differ-1n : v1 ≢ vn
+        differ-1n = post-apart G vs N 1 (length G) (omega arith) (omega arith) (omega arith)
 
-        single : Once (post vs 1 ∷ post vs (length G) ∷ post vs 2 ∷ [])
+        differ-2n : v2 ≢ vn
+        differ-2n = post-apart G vs N 2 (length G) (omega arith) (omega arith) (omega arith)
+
+        single : Once (v1 ∷ vn ∷ v2 ∷ [])
         single = (
-          elim [ inl e ↦ apart 1 (length G) (omega arith) (omega arith) (omega arith) e | inr i ↦ elim i [ inl e ↦ apart 1 2 (omega arith) (omega arith) (omega arith) e | inr j ↦ j ] ],
-          (elim [ inl e ↦ apart 2 (length G) (omega arith) (omega arith) (omega arith) (sym e) | inr i ↦ i ], ((λ i. i), tt)),
+          elim [ inl e ↦ differ-1n e | inr i ↦ elim i [ inl e ↦ differ-12 e | inr j ↦ j ] ],
+          (elim [ inl e ↦ differ-2n (sym e) | inr i ↦ i ], ((λ i. i), tt)),
         )
 
-        to : (x y : ℕ) → ContourWire G vs (length G) x y → Adj (post vs 2 ∷ post vs 1 ∷ post vs (length G) ∷ post vs 2 ∷ []) x y
+        to : (x y : ℕ) → ContourWire G vs (length G) x y → Adj (v2 ∷ v1 ∷ vn ∷ v2 ∷ []) x y
         to x y c =
-            elim (sides-only G A (take (length G) vs) (post vs 2) (post vs 1) (post vs (length G)) outer (placed 2 (omega arith) (omega arith)) (placed 1 (omega arith) (omega arith)) (placed (length G) (omega arith) (omega arith)) x y c) [
+            elim (sides-only G A (take (length G) vs) v2 v1 vn outer in2 in1 inn x y c) [
               | inl e ↦ inl (sym (e .0), sym (e .1))
               | inr i ↦ elim i [ inl e ↦ inr (inl (sym (e .0), sym (e .1))) | inr e ↦ inr (inr (inl (sym (e .0), sym (e .1)))) ]
             ]
 
-        from : (x y : ℕ) → Adj (post vs 2 ∷ post vs 1 ∷ post vs (length G) ∷ post vs 2 ∷ []) x y → ContourWire G vs (length G) x y
+        from : (x y : ℕ) → Adj (v2 ∷ v1 ∷ vn ∷ v2 ∷ []) x y → ContourWire G vs (length G) x y
         from x y (inl b) = rw (← (b .0), ← (b .1)) (around-outer .0)
         from x y (inr (inl b)) = rw (← (b .0), ← (b .1)) (around-outer .1)
         from x y (inr (inr (inl b))) = rw (← (b .0), ← (b .1)) (around-outer .2)

@@ -8,7 +8,7 @@ use native.Mathlib.Omega.{arith}
 use native.Mathlib.Decide.{ℕ-discrete}
 use lib.ListN.{length, getD, take}
 use Rattle.words.specs.Lists.{In}
-use Rattle.words.specs.Positions.{post, later, Earlier, Later}
+use Rattle.words.specs.Positions.{post, Earlier, Later}
 use Rattle.words.proofs.Lists.{in-dec, all-there}
 use Rattle.words.proofs.Tests.{different-once}
 use Rattle.words.proofs.Positions.{in-take, post-suc, later-in, in-later, later-new, earlier-or}
@@ -22,8 +22,8 @@ use Rattle.order.proofs.Tests.{says-two, later-says}
 use Rattle.growth.specs.Co.{Face, Joined, CoOrder}
 use Rattle.growth.specs.Co.Face.{same, turn, cross}
 use Rattle.growth.specs.Forced.{Bridging}
-use Rattle.growth.proofs.Forced.{two-and-a-later-one}
-use Rattle.growth.proofs.Named.{first-step, post-in, post-below, post-one, not-yet}
+use Rattle.growth.proofs.Forced.{Waiting, two-and-a-later-one}
+use Rattle.growth.proofs.Named.{first-step, post-in, post-other, post-apart, not-yet}
 
 -- ---- the exterior face: each post of its triangles is placed, or vn, or has a waiting neighbour
 module _ (G : List (List ℕ)) (A : Faces G) (placed : List ℕ) (v1 v2 vn : ℕ) (i1 : In v1 placed) (i2 : In v2 placed) where
@@ -47,11 +47,21 @@ module _ (G : List (List ℕ)) (A : Faces G) (placed : List ℕ) (v1 v2 vn : ℕ
   pub exterior-posts : {u v w : ℕ} → Face G placed v2 v1 vn u v w → Fine u × Fine v × Fine w
   exterior-posts same = (inl i2, inl i1, inr (inl refl))
   exterior-posts (turn f) = let r = exterior-posts f in (r .1, r .2, r .0)
-  exterior-posts (cross {u} {v} {w} {x} f nw g) = let r = exterior-posts f in (r .1, r .0, beyond u v x nw (follows-after G v u x g))
+  exterior-posts (cross {u} {v} {w} {x} f nw g) =
+      let r = exterior-posts f in (r .1, r .0, beyond u v x nw (follows-after G v u x g))
 
 module _ (G : List (List ℕ)) (vs : List ℕ) (P : Plane G (post vs 1) (post vs 2) (post vs (length G))) (O : CoOrder G vs) where
+  abbrev v1 : ℕ
+  v1 = post vs 1
+
+  abbrev v2 : ℕ
+  v2 = post vs 2
+
+  abbrev vn : ℕ
+  vn = post vs (length G)
+
   A : Faces G
-  A = faces-plane G (post vs 1) (post vs 2) (post vs (length G)) P
+  A = faces-plane G v1 v2 vn P
 
   n : length vs ≡ length G
   n = O .all
@@ -64,38 +74,44 @@ module _ (G : List (List ℕ)) (vs : List ℕ) (P : Plane G (post vs 1) (post vs
     abbrev v : ℕ
     v = post vs k
 
-    apart : (z a b : ℕ) → In a (take k vs) → In b (take k vs) → a ≢ z → b ≢ z → Joined G (take k vs) z a b
+    abbrev first-k : List ℕ
+    first-k = take k vs
+
+    apart : (z a b : ℕ) → In a first-k → In b first-k → a ≢ z → b ≢ z → Joined G first-k z a b
     apart = O .co k h l .co1-two-connected .1
 
-    v-in : In v (take k vs)
+    v-in : In v first-k
     v-in = post-in vs k k (omega arith) (omega arith) l
 
     other-than : (j : ℕ) → 1 ≤ j → j < k → v ≢ post vs j
-    other-than j a b e = let q = post-one G vs N k j (omega arith) (omega (arith, n)) a (omega (arith, n)) e in omega arith
+    other-than j a b e = post-apart G vs N j k a b (omega (arith, n)) (sym e)
 
-    step-to : (z j : ℕ) → 1 ≤ j → j < k → v ≢ z → post vs j ≢ z → (c : ℕ) × Wire G (take k vs) v c × (c ≢ z)
-    step-to z j a b nv nj = first-step G (take k vs) z v (apart z v (post vs j) v-in (post-in vs k j a (omega arith) l) nv nj) (other-than j a b)
+    step-to : (z j : ℕ) → 1 ≤ j → j < k → v ≢ z → post vs j ≢ z → (c : ℕ) × Wire G first-k v c × (c ≢ z)
+    step-to z j a b nv nj =
+        first-step G first-k z v (apart z v (post vs j) v-in (post-in vs k j a (omega arith) l) nv nj) (other-than j a b)
 
-    before : (c : ℕ) → Wire G (take k vs) v c → Earlier vs k c
+    before : (c : ℕ) → Wire G first-k v c → Earlier vs k c
     before c w =
         let t = in-take k vs c (w .1) in
         let ne : t .0 ≢ k - 1 = λ e. entry-other G A v c (w .2) (sym (t .3) ∙ ap (λ (r : ℕ). getD vs r 0) e) in
         (suc (t .0), omega arith, omega (arith, t .1, ne), post-suc vs (t .0) ∙ t .3)
 
-    first : (c : ℕ) × Wire G (take k vs) v c × (c ≢ length G)
+    first : (c : ℕ) × Wire G first-k v c × (c ≢ length G)
     first =
-        step-to (length G) 1 (omega arith) (omega arith) (λ e. omega (arith, e, post-below G vs N k (omega arith) (omega (arith, n))))
-        (λ e. omega (arith, e, post-below G vs N 1 (omega arith) (omega (arith, n))))
+        step-to (length G) 1 (omega arith) (omega arith)
+        (post-other G vs N k (omega arith) (omega (arith, n))) (post-other G vs N 1 (omega arith) (omega (arith, n)))
 
-    second : (c : ℕ) × Wire G (take k vs) v c × (c ≢ first .0)
-    second = go (ℕ-discrete (post vs 1) (first .0))
+    second : (c : ℕ) × Wire G first-k v c × (c ≢ first .0)
+    second = go (ℕ-discrete v1 (first .0))
       where
         nv : v ≢ first .0
         nv e = entry-other G A v (first .0) (first .1 .2) (sym e)
 
-        go : Dec (post vs 1 ≡ first .0) → (c : ℕ) × Wire G (take k vs) v c × (c ≢ first .0)
+        go : Dec (v1 ≡ first .0) → (c : ℕ) × Wire G first-k v c × (c ≢ first .0)
         go (no m) = step-to (first .0) 1 (omega arith) (omega arith) nv m
-        go (yes e) = step-to (first .0) 2 (omega arith) (omega arith) nv (λ e2. let q = post-one G vs N 1 2 (omega arith) (omega (arith, n)) (omega arith) (omega (arith, n)) (e ∙ sym e2) in omega arith)
+        go (yes e) =
+            step-to (first .0) 2 (omega arith) (omega arith) nv
+            (λ e2. post-apart G vs N 1 2 (omega arith) (omega arith) (omega (arith, n)) (e ∙ sym e2))
 
     pub two-at : Two G vs k (post vs k)
     two-at = record {
@@ -109,49 +125,51 @@ module _ (G : List (List ℕ)) (vs : List ℕ) (P : Plane G (post vs 1) (post vs
     }
 
   -- ---- a later neighbour
-  outer : After G (post vs 2) (post vs 1) (post vs (length G))
-  outer = follows-after G (post vs 2) (post vs 1) (post vs (length G)) (P .outer)
-
-  abbrev Waiting : ℕ → Type 0
-  Waiting k = (a : ℕ) × In a (ring G (getD vs k 0)) × ¬ (In a (take k vs))
+  outer : After G v2 v1 vn
+  outer = follows-after G v2 v1 vn (P .outer)
 
   -- the third post, by the contour of v1 and v2
-  third : 3 < length G → Waiting 2
+  third : 3 < length G → Waiting G vs 2
   third h =
-      let t = later-says G vs 3 (post vs 3) (never-refused-14 G vs A outer N 3 (omega arith) h (λ j a b. absurd (omega arith)) (says-two G vs 3 (post vs 3) (omega (arith, n)) (two-at 3 (omega arith) (omega (arith, n))))) in
+      let two = says-two G vs 3 (post vs 3) (omega (arith, n)) (two-at 3 (omega arith) (omega (arith, n))) in
+      let t = later-says G vs 3 (post vs 3) (never-refused-14 G vs A outer N 3 (omega arith) h (λ j a b. absurd (omega arith)) two) in
       (t .0, t .1, later-new vs (N .once) 3 (omega arith) (omega (arith, n)) (t .0) (later-in vs 3 (t .0) (t .2)))
 
   -- the next post of a stage from 3 on, by the exterior face
-  next-waits : (k : ℕ) → 3 ≤ k → suc k < length G → Waiting k
+  next-waits : (k : ℕ) → 3 ≤ k → suc k < length G → Waiting G vs k
   next-waits k h l =
-      let s : post vs (suc k) ≡ getD vs k 0 = post-suc vs k in
+      let u = post vs (suc k) in
       let a = two-at (suc k) (omega arith) (omega (arith, n)) in
-      let b = around-next (ring G (post vs (suc k))) (a .a) (a .near-a) in
-      let f = O .co k h (omega (arith, n)) .co3-outside (omega (arith, n)) (a .a) (b .0) (after-follows G (post vs (suc k)) (a .a) (b .0) (b .1)) in
-      subst (λ (r : ℕ). (a : ℕ) × In a (ring G r) × ¬ (In a (take k vs))) s
-      (go (exterior-posts G A (take k vs) (post vs 1) (post vs 2) (post vs (length G)) (post-in vs k 1 (omega arith) (omega arith) (omega (arith, n))) (post-in vs k 2 (omega arith) (omega arith) (omega (arith, n))) f .0))
+      let b = around-next (ring G u) (a .a) (a .near-a) in
+      let f = O .co k h (omega (arith, n)) .co3-outside (omega (arith, n)) (a .a) (b .0) (after-follows G u (a .a) (b .0) (b .1)) in
+      subst (λ (r : ℕ). (a : ℕ) × In a (ring G r) × ¬ (In a (take k vs))) (post-suc vs k)
+      (go (exterior-posts G A (take k vs) v1 v2 vn in1 in2 f .0))
     where
-      go : Fine G A (take k vs) (post vs 1) (post vs 2) (post vs (length G)) (post-in vs k 1 (omega arith) (omega arith) (omega (arith, n))) (post-in vs k 2 (omega arith) (omega arith) (omega (arith, n))) (post vs (suc k))
-          → (a : ℕ) × In a (ring G (post vs (suc k))) × ¬ (In a (take k vs))
+      in1 : In v1 (take k vs)
+      in1 = post-in vs k 1 (omega arith) (omega arith) (omega (arith, n))
+
+      in2 : In v2 (take k vs)
+      in2 = post-in vs k 2 (omega arith) (omega arith) (omega (arith, n))
+
+      go : Fine G A (take k vs) v1 v2 vn in1 in2 (post vs (suc k)) → (a : ℕ) × In a (ring G (post vs (suc k))) × ¬ (In a (take k vs))
       go (inl i) = absurd (not-yet G vs N k (suc k) (omega arith) (omega arith) i)
-      go (inr (inl e)) = absurd (let q = post-one G vs N (suc k) (length G) (omega arith) (omega arith) (omega arith) (omega arith) e in omega arith)
+      go (inr (inl e)) = absurd (post-apart G vs N (suc k) (length G) (omega arith) (omega arith) (omega arith) e)
       go (inr (inr t)) = t
 
-  waits : (k : ℕ) → 2 ≤ k → suc k < length G → Waiting k
+  waits : (k : ℕ) → 2 ≤ k → suc k < length G → Waiting G vs k
   waits k h l = go (ℕ-discrete k 2)
     where
-      go : Dec (k ≡ 2) → Waiting k
+      go : Dec (k ≡ 2) → Waiting G vs k
       go (yes e) = rw e (third (omega arith))
       go (no m) = next-waits k (omega arith) l
 
   later-at : (k : ℕ) → 3 ≤ k → k < length vs → (a : ℕ) × In a (ring G (post vs k)) × Later vs k a
   later-at k h l =
-      let t = waits (k - 1) (omega arith) (omega (arith, n)) in (
-        t .0,
-        t .1,
-        earlier-or vs (N .once) k (omega arith) (omega arith) (t .0) (all-there (length G) vs (N .once) (N .below) (omega (arith, n)) (t .0) (entry-below G A (post vs k) (t .0) (t .1)))
-            (λ i. absurd (t .2 i)) (λ e. absurd (entry-other G A (post vs k) (t .0) (t .1) e)) (in-later vs k (t .0)),
-      )
+      let t = waits (k - 1) (omega arith) (omega (arith, n)) in
+      let a = t .0 in
+      let i = all-there (length G) vs (N .once) (N .below) (omega (arith, n)) a (entry-below G A (post vs k) a (t .1)) in
+      let other = entry-other G A (post vs k) a (t .1) in
+      (a, t .1, earlier-or vs (N .once) k (omega arith) (omega arith) a i (λ i. absurd (t .2 i)) (λ e. absurd (other e)) (in-later vs k a))
 
   bridging : Bridging G vs
   bridging = record {

@@ -4,6 +4,7 @@ pub mod Counts
 pub mod Forced
 pub mod Named
 pub mod FromStages
+pub mod Triangles
 pub mod ToStages
 pub mod Contours
 pub mod Agree

@@ -63,14 +63,16 @@ on-board : (G : List (List ℕ)) (vs : List ℕ) → Tested G vs → CoOrder G v
 on-board G vs t = let s = passes-sound G vs (tested-passes G vs t) in to-stages G vs (s .0) (s .1)
 
 tested-T : Tested listsT orderT
-unfolding first some mem allOf anyOf count sumOf badEntry badDegree around next allNext follows entryRule ringRule triangleRule outerRule twoPlaced from rest leads oneRun
+unfolding first some mem allOf anyOf count sumOf badEntry badDegree around next allNext follows
+    entryRule ringRule triangleRule outerRule twoPlaced from rest leads oneRun
 tested-T = record { all = refl; entries = refl; degrees = refl; total = refl; rings = refl; triangles = refl; outer = refl; two = refl; run = refl }
 
 pub T-keeps : CoOrder listsT orderT
 T-keeps = on-board listsT orderT tested-T
 
 tested-D : Tested listsD orderD
-unfolding first some mem allOf anyOf count sumOf badEntry badDegree around next allNext follows entryRule ringRule triangleRule outerRule twoPlaced from rest leads oneRun
+unfolding first some mem allOf anyOf count sumOf badEntry badDegree around next allNext follows
+    entryRule ringRule triangleRule outerRule twoPlaced from rest leads oneRun
 tested-D = record { all = refl; entries = refl; degrees = refl; total = refl; rings = refl; triangles = refl; outer = refl; two = refl; run = refl }
 
 pub D-keeps : CoOrder listsD orderD
@@ -79,6 +81,10 @@ D-keeps = on-board listsD orderD tested-D
 -- ---- the autumn block: D's lists in the order 0, 1, 3, 2, 4
 abbrev autumn : List ℕ
 autumn = 0 ∷ 1 ∷ 3 ∷ 2 ∷ 4 ∷ []
+
+-- the posts of its G_3
+abbrev three : List ℕ
+three = 0 ∷ 1 ∷ 3 ∷ []
 
 plane-D : Plane listsD 0 1 4
 plane-D = passes-sound listsD orderD (tested-passes listsD orderD tested-D) .0
@@ -89,9 +95,9 @@ faces-D = faces-plane listsD 0 1 4 plane-D
 -- its fourth post, 2, is not in the exterior face of G_3
 pub autumn-hidden : ¬ (Outside listsD autumn 3 2)
 unfolding around
-autumn-hidden o = go (exterior-posts listsD faces-D (0 ∷ 1 ∷ 3 ∷ []) 0 1 4 (inl refl) (inr (inl refl)) (o 0 1 ([], 3 ∷ 0 ∷ [], refl)) .0)
+autumn-hidden o = go (exterior-posts listsD faces-D three 0 1 4 (inl refl) (inr (inl refl)) (o 0 1 ([], 3 ∷ 0 ∷ [], refl)) .0)
   where
-    go : In 2 (0 ∷ 1 ∷ 3 ∷ []) ⊎ ((_≡_ {A = ℕ} 2 4) ⊎ ((y : ℕ) × In y (ring listsD 2) × ¬ (In y (0 ∷ 1 ∷ 3 ∷ [])))) → ⊥
+    go : In 2 three ⊎ ((_≡_ {A = ℕ} 2 4) ⊎ ((y : ℕ) × In y (ring listsD 2) × ¬ (In y three))) → ⊥
     go (inl (inl e)) = omega arith
     go (inl (inr (inl e))) = omega arith
     go (inl (inr (inr (inl e)))) = omega arith
@@ -128,7 +134,7 @@ turned c3 = c1
 one-next : (u a b c : ℕ) → After listsD u a b → After listsD u a c → b ≡ c
 one-next = rings listsD faces-D .next-one
 
-crossed : {u v w x : ℕ} → Hidden u v w → ¬ (Wire listsD (0 ∷ 1 ∷ 3 ∷ []) u v) → After listsD v u x → Hidden v u x
+crossed : {u v w x : ℕ} → Hidden u v w → ¬ (Wire listsD three u v) → After listsD v u x → Hidden v u x
 unfolding around
 crossed a1 n f = absurd (n (inl refl, inr (inl refl), inl refl))
 crossed {x = x} a2 n f = subst (Hidden 2 1) (one-next 2 1 3 x (inr (inl (refl, refl))) f) c3
@@ -140,7 +146,7 @@ crossed c1 n f = absurd (n (inr (inl refl), inr (inr (inl refl)), inr (inl refl)
 crossed {x = x} c2 n f = subst (Hidden 2 3) (one-next 2 3 0 x (inr (inr (inl (refl, refl)))) f) b2
 crossed {x = x} c3 n f = subst (Hidden 1 2) (one-next 1 2 0 x (inr (inr (inl (refl, refl)))) f) a2
 
-in-hidden : {u v w : ℕ} → Face listsD (0 ∷ 1 ∷ 3 ∷ []) 0 1 2 u v w → Hidden u v w
+in-hidden : {u v w : ℕ} → Face listsD three 0 1 2 u v w → Hidden u v w
 in-hidden same = a1
 in-hidden (turn f) = turned (in-hidden f)
 in-hidden (cross {u} {v} {w} {x} f n g) = crossed (in-hidden f) n (follows-after listsD v u x g)
@@ -160,23 +166,24 @@ autumn-triangle = record {
   only = λ x y b. sides (in-hidden (b .1 .2)) (b .0);
 }
   where
-    off : {a b : ℕ} → ¬ (In a (0 ∷ 1 ∷ 3 ∷ [])) → ¬ (Wire listsD (0 ∷ 1 ∷ 3 ∷ []) a b)
+    off : {a b : ℕ} → ¬ (In a three) → ¬ (Wire listsD three a b)
     off m w = m (w .0)
 
-    waits : ¬ (In 2 (0 ∷ 1 ∷ 3 ∷ []))
+    waits : ¬ (In 2 three)
     waits (inl e) = omega arith
     waits (inr (inl e)) = omega arith
     waits (inr (inr (inl e))) = omega arith
     waits (inr (inr (inr i))) = i
 
     -- 2 0 1, over the wire 2 0 to 0 2 3, and over the wire 1 2 to 2 1 3
-    three-zero : Face listsD (0 ∷ 1 ∷ 3 ∷ []) 0 1 2 3 0 2
+    three-zero : Face listsD three 0 1 2 3 0 2
     three-zero = turn (turn (cross (turn (turn same)) (off waits) (1 ∷ [], 4 ∷ 1 ∷ [], refl)))
 
-    one-three : Face listsD (0 ∷ 1 ∷ 3 ∷ []) 0 1 2 1 3 2
+    one-three : Face listsD three 0 1 2 1 3 2
     one-three = turn (cross (turn same) (λ w. waits (w .1)) (0 ∷ [], 0 ∷ [], refl))
 
-    sides : {x y z : ℕ} → Hidden x y z → Wire listsD (0 ∷ 1 ∷ 3 ∷ []) x y → ((x ≡ 0) × (y ≡ 1)) ⊎ (((x ≡ 1) × (y ≡ 3)) ⊎ ((x ≡ 3) × (y ≡ 0)))
+    sides : {x y z : ℕ} → Hidden x y z → Wire listsD three x y
+        → ((x ≡ 0) × (y ≡ 1)) ⊎ (((x ≡ 1) × (y ≡ 3)) ⊎ ((x ≡ 3) × (y ≡ 0)))
     sides a1 w = inl (refl, refl)
     sides a2 w = absurd (waits (w .1))
     sides a3 w = absurd (waits (w .0))
