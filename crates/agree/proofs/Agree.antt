@@ -52,15 +52,19 @@ module _ (s : List ℕ) (h : NoneApplies blockRows s) where
   rule-connected : NoneApplies (orderRows s) s → Connected s
   rule-connected r u l = passes-connected G vs (both-passes s h r) u (omega (arith, n))
 
+  rule-order : NoneApplies (orderRows s) s → CoOrder G vs
+  rule-order r = let t = passes-sound G vs (both-passes s h r) in to-stages G vs (t .0) (t .1)
+
   rule-co : NoneApplies (orderRows s) s → CoStages s
-  rule-co r k a b = let t = passes-sound G vs (both-passes s h r) in to-stages G vs (t .0) (t .1) .co k a (omega (arith, m))
+  rule-co r k a b = rule-order r .co k (omega arith) (omega (arith, m))
 
   rule-contours : NoneApplies (orderRows s) s → CoContours s
-  rule-contours r k a b = over-contour G vs k _ (stage-contour-list G vs (both-passes s h r) k a (omega (arith, n))) (rule-co r k a b)
+  rule-contours r k a b =
+      over-contour G vs k _ (stage-contour-list G vs (both-passes s h r) k a (omega (arith, n))) (rule-order r .co k a (omega (arith, m)))
 
   -- ---- from the conditions
   co-order : CoStages s → CoOrder G vs
-  co-order c = record { all = N .all; below = N .below; once = once-different vs (N .once); co = λ k a b. c k a (omega (arith, m)) }
+  co-order c = record { all = N .all; below = N .below; once = once-different vs (N .once); co = λ k a b. c k (omega arith) (omega (arith, m)) }
 
   co-rule : Connected s → CoStages s → NoneApplies (orderRows s) s
   co-rule c r =
@@ -68,7 +72,7 @@ module _ (s : List ℕ) (h : NoneApplies blockRows s) where
       passes-order s (sound-passes G vs (P, from-stages G vs P (co-order r))) least
 
   lists-co : CoLists s → CoStages s
-  lists-co c k a b = let t = c k a b in by-wires G vs k (t .0) (t .1)
+  lists-co c k a b = let t = c k (omega arith) b in by-wires G vs k (t .0) (t .1)
 
   -- G_n has every post, and is connected
   co-connected : CoStages s → Connected s

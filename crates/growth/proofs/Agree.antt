@@ -1,19 +1,16 @@
 -- The rule of 01 and the conditions of 002 agree: in a triangulated plane graph an order is canonical by the rule per position exactly if co1 to co3
 -- hold at every stage; and C_k is then a list from v1 to v2, over which they can be written.
 use mathlib.Core.Logic.{_↔_, inr}
-use mathlib.Core.List.{List, [], _∷_, _++_}
-use mathlib.Core.Path.{_≡_, ap, _∙_}
+use mathlib.Core.List.{List}
 use Prim.Native.Nat.{ℕ, _≤_}
 use lib.ListN.{length}
 use Rattle.words.specs.Positions.{post}
-use Rattle.rings.specs.Rings.{around}
 use Rattle.rings.specs.Plane.{Plane}
-use Rattle.rings.proofs.Around.{around-cut}
 use Rattle.order.specs.Canonical.{Canonical}
 use Rattle.growth.specs.Co.{ContourList, Co, CoOver, CoOrder}
 use Rattle.growth.proofs.FromStages.{from-stages}
 use Rattle.growth.proofs.ToStages.{to-stages}
-use Rattle.growth.proofs.Contours.{on-list, stage-contour}
+use Rattle.growth.proofs.Contours.{closing-wire, on-list, stage-contour}
 
 module _ (G : List (List ℕ)) (vs : List ℕ) (k : ℕ) (K : List ℕ) where
   -- co1 to co3 over a contour that is written as a list, and by its wires
@@ -30,13 +27,10 @@ module _ (G : List (List ℕ)) (vs : List ℕ) (k : ℕ) (K : List ℕ) where
   by-wires c = record {
     co1-two-connected = c .co1-two-connected;
     co1-triangulated = c .co1-triangulated;
-    co2-base = inr (c .contour .wires (post vs 2) (post vs 1) .1 (post vs 1 ∷ c .contour .between, [], closed));
+    co2-base = inr (closing-wire G vs k K (c .contour));
     co3-outside = c .co3-outside;
     co3-near = λ l a i j. on-list G vs k K (c .contour) a .1 (c .co3-near l a i j);
   }
-    where
-      closed : around K ≡ (post vs 1 ∷ c .contour .between) ++ post vs 2 ∷ post vs 1 ∷ []
-      closed = ap around (c .contour .is) ∙ around-cut (post vs 1) (c .contour .between) (post vs 2 ∷ [])
 
 module _ (G : List (List ℕ)) (vs : List ℕ) (P : Plane G (post vs 1) (post vs 2) (post vs (length G))) where
   pub agree : Canonical G vs ↔ CoOrder G vs

@@ -25,6 +25,16 @@ use Rattle.growth.proofs.Named.{post-in, post-apart, not-yet}
 use Rattle.growth.proofs.Triangles.{sides, sides-only}
 use Rattle.growth.proofs.ToStages.{leave-at, leave-wire, base-wire}
 
+-- the list closes by the wire from v2 to v1
+pub closing-wire : (G : List (List ℕ)) (vs : List ℕ) (k : ℕ) (K : List ℕ) → ContourList G vs k K → ContourWire G vs k (post vs 2) (post vs 1)
+closing-wire G vs k K W = W .wires v2 v1 .1 (v1 ∷ W .between, [], ap around (W .is) ∙ around-cut v1 (W .between) (v2 ∷ []))
+  where
+    v1 : ℕ
+    v1 = post vs 1
+
+    v2 : ℕ
+    v2 = post vs 2
+
 -- a post is on C_k if it is in the list, and only then
 pub on-list : (G : List (List ℕ)) (vs : List ℕ) (k : ℕ) (K : List ℕ) → ContourList G vs k K → (a : ℕ) → ContourPost G vs k a ↔ In a K
 on-list G vs k K W a = (to, from)
