@@ -12,3 +12,4 @@ pub mod Sheet
 pub mod Tied
 pub mod Every
 pub mod Mirror
+pub mod OnBoards

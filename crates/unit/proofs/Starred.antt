@@ -15,5 +15,8 @@ use Rattle.unit.specs.Replies.{stageAt, sheetReply, bufferFor, bufferAft
 use Rattle.unit.specs.Starred.{bytes, blockOf, T, D, starred, AllHold}
 
 pub starred-hold : AllHold starred
-unfolding flatMap flatten wordsAt sumOf numbers first some mem allOf anyOf count order degrees listsFrom lists marked badEntry badDegree around next allNext follows entryRule ringRule triangleRule outerRule twoPlaced from lead rest leads oneRun begins run third upTo onFrom placeOver place placeAll stage leftOf rightOf standing recordOf entriesOf blockRows positionRows checkRows sheetRows postRows given stageAt checkReply sheetReply bufferFor bufferAfter postReply bytes blockOf T D starred
+unfolding flatMap flatten wordsAt sumOf numbers first some mem allOf anyOf count order degrees listsFrom lists marked badEntry badDegree around next
+    allNext follows entryRule ringRule triangleRule outerRule twoPlaced from lead rest leads oneRun begins run third upTo onFrom placeOver place
+    placeAll stage leftOf rightOf standing recordOf entriesOf blockRows positionRows checkRows sheetRows postRows given stageAt checkReply sheetReply
+    bufferFor bufferAfter postReply bytes blockOf T D starred
 starred-hold = ((refl, refl), ((refl, refl), ((refl, refl), ((refl, refl), (refl, ((refl, refl), (refl, ((refl, refl), (refl, ((refl, refl), ((refl, refl), (refl, (refl, (refl, (refl, (refl, (refl, (refl, tt))))))))))))))))))
