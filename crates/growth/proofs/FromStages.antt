@@ -17,7 +17,7 @@ use Rattle.rings.specs.Plane.{Wire, Plane}
 use Rattle.rings.proofs.Around.{After, follows-after, after-follows, around-in, around-next}
 use Rattle.rings.proofs.Says.{Faces, faces-plane, entry-below, entry-other, entry-returned}
 use Rattle.order.specs.Canonical.{Two, Canonical}
-use Rattle.order.proofs.Growth.{Names, never-refused-14}
+use Rattle.order.proofs.Growth.{Names, later-follows}
 use Rattle.order.proofs.Tests.{says-two, later-says}
 use Rattle.growth.specs.Co.{Face, Joined, CoOrder}
 use Rattle.growth.specs.Co.Face.{same, turn, cross}
@@ -132,7 +132,7 @@ module _ (G : List (List ℕ)) (vs : List ℕ) (P : Plane G (post vs 1) (post vs
   third : 3 < length G → Waiting G vs 2
   third h =
       let two = says-two G vs 3 (post vs 3) (omega (arith, n)) (two-at 3 (omega arith) (omega (arith, n))) in
-      let t = later-says G vs 3 (post vs 3) (never-refused-14 G vs A outer N 3 (omega arith) h (λ j a b. absurd (omega arith)) two) in
+      let t = later-says G vs 3 (post vs 3) (later-follows G vs A outer N 3 (omega arith) h (λ j a b. absurd (omega arith)) two) in
       (t .0, t .1, later-new vs (N .once) 3 (omega arith) (omega (arith, n)) (t .0) (later-in vs 3 (t .0) (t .2)))
 
   -- the next post of a stage from 3 on, by the exterior face

@@ -14,7 +14,7 @@ use Rattle.words.proofs.Tests.{neither}
 use Rattle.words.specs.Positions.{post, earlier, later}
 use Rattle.block.specs.Block.{posts, order, lists}
 use Rattle.order.specs.Order.{twoPlaced, oneRun, oneLater}
-use Rattle.order.proofs.Growth.{never-refused-14}
+use Rattle.order.proofs.Growth.{later-follows}
 use Rattle.order.proofs.Sound.{boarded-names, boarded-faces, boarded-outer}
 use Rattle.lamp.specs.Lamp.{Row, blockRows, positionRows, orderRows, checkRows, stageRow, roomRow, nameRow, sheetRows, postRows}
 use Rattle.lamp.specs.Given.{refused, given, NoneApplies}
@@ -111,7 +111,7 @@ module _ (s : List ℕ) (h : NoneApplies blockRows s) where
       let o = boarded-outer G vs B in
       let N = boarded-names G vs B in
       false-and (ltb k (posts s)) (not (oneLater G (later vs k) (post vs k)))
-      (λ t. ap not (never-refused-14 G vs F o N k l (omega (arith, ltb-true k (posts s) t, n)) b (none-position s k p .0)))
+      (λ t. ap not (later-follows G vs F o N k l (omega (arith, ltb-true k (posts s) t, n)) b (none-position s k p .0)))
 
   next : (k : ℕ) → Before k → NoneApplies (positionRows k) s → Before (suc k)
   next k b p j l m = go (ℕ-discrete j k)

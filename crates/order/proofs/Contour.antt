@@ -160,5 +160,5 @@ module _ (F : ℕ → ℕ → ℕ → Type 0) (v1 v2 vn : ℕ) (R : Rings F) (ou
         let ez : z ≡ b = once-next a b X (z ∷ Z) (rw e at (C .once)) (rw e at h) in
         to-the-end Z (X ++ a ∷ []) b (c .0) (rw append-assoc (rw ez at e)) (c .1))
 
-    pub never-14 : (a b : ℕ) → F v a b → v ≡ vn
-    never-14 a b f = right a b f (λ h. let t = cut-at a K (adj-in-left a b K h) in to-the-end (t .1) (t .0) a b (t .2) f)
+    pub full-is-last : (a b : ℕ) → F v a b → v ≡ vn
+    full-is-last a b f = right a b f (λ h. let t = cut-at a K (adj-in-left a b K h) in to-the-end (t .1) (t .0) a b (t .2) f)

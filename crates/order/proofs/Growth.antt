@@ -1,4 +1,4 @@
--- The contour grows by a post at a time, as long as the order's tests pass; and so step 14 never refuses.
+-- The contour grows by a post at a time, as long as the order's tests pass; and so a post below n has a later neighbour.
 use mathlib.Core.Path.{_≡_, refl, subst}
 use mathlib.Core.Bool.{true}
 use mathlib.Core.List.{List, [], _∷_, _++_}
@@ -133,11 +133,12 @@ module _ (G : List (List ℕ)) (vs : List ℕ) (F : Faces G) (outer : After G (p
           let g = grow-at (suc k) (omega arith) i (c .0) (subst (λ (j : ℕ). Contour (After G) (post vs 1) (post vs 2) (take j vs) (c .0)) e (c .1)) (t .0) (t .1) in
           (g .X ++ g .p ∷ post vs (suc k) ∷ g .q ∷ g .Y, rw (earlier-next vs (suc k) (omega arith) (omega arith)) (g .now))
 
-  -- Step 14 never refuses: below n, a post with two earlier neighbours has a later one, where the earlier positions passed.
-  pub never-refused-14 : (k : ℕ) → 3 ≤ k → k < length G → ((j : ℕ) → 3 ≤ j → j < k → (twoPlaced G (earlier vs j) (post vs j) ≡ true) × (oneRun G (earlier vs j) (post vs j) ≡ true))
+  -- A later neighbour follows: below n, a post with two earlier neighbours has a later one, where the earlier positions passed.
+  pub later-follows : (k : ℕ) → 3 ≤ k → k < length G
+      → ((j : ℕ) → 3 ≤ j → j < k → (twoPlaced G (earlier vs j) (post vs j) ≡ true) × (oneRun G (earlier vs j) (post vs j) ≡ true))
       → twoPlaced G (earlier vs k) (post vs k) ≡ true → oneLater G (later vs k) (post vs k) ≡ true
   unfolding oneLater
-  never-refused-14 k h i t two = is-true _ (not-not (anyOf (mem (later vs k)) (ring G (post vs k))) (λ none.
+  later-follows k h i t two = is-true _ (not-not (anyOf (mem (later vs k)) (ring G (post vs k))) (λ none.
       let n : length vs ≡ length G = N .all in
       let x = near G (earlier vs k) (post vs k) two in
       let c = contour-at (k - 1) (omega arith) (omega arith) (λ j a b. t j a (omega arith)) in

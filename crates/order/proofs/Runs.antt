@@ -19,7 +19,7 @@ use Rattle.rings.specs.Rings.{ring, around}
 use Rattle.rings.proofs.Around.{After, around-one, around-in, around-next, around-cut, around-turn}
 use Rattle.rings.proofs.Says.{Faces, entry-other, ring-once, name, follows-name}
 use Rattle.order.specs.Order.{twoPlaced, from, lead, rest, leads, oneRun, begins, run}
-use Rattle.order.proofs.Contour.{Rings, Run, Contour, cut, never-14}
+use Rattle.order.proofs.Contour.{Rings, Run, Contour, cut, full-is-last}
 use Rattle.order.proofs.Tests.{lead-rest, lead-placed, leads-says, says-leads, from-out, from-at, begins-says, says-begins}
 
 -- rings and triangles, as the contour's laws want them
@@ -209,8 +209,8 @@ module _ (G : List (List ℕ)) (F : Faces G) (v1 v2 vn : ℕ) (outer : After G v
         let r = begins-run (first 0 (length (ring G v)) (begins G placed v)) (omega (arith, f .0)) (holds _ (f .1)) in
         record { p = r .0; M = r .1; q = r .2; run-is = r .3; the-run = r .4; no-turn = r .5 }
 
-  -- a new post with a neighbour, all of whose neighbours are placed, is vn: step 14 never refuses
+  -- a new post with a neighbour, all of whose neighbours are placed, is vn
   pub whole-is-last : (placed K : List ℕ) (v : ℕ) → Contour (After G) v1 v2 placed K → ¬ (In v placed) → (x : ℕ) → In x (ring G v) → ((a : ℕ) → In a (ring G v) → In a placed) → v ≡ vn
   whole-is-last placed K v C new x h all =
       let b = around-next (ring G v) x h in
-      never-14 (After G) v1 v2 vn (rings G F) outer placed K C v new (λ a b f. all a (around-in (ring G v) a b f .0)) x (b .0) (b .1)
+      full-is-last (After G) v1 v2 vn (rings G F) outer placed K C v new (λ a b f. all a (around-in (ring G v) a b f .0)) x (b .0) (b .1)

@@ -26,7 +26,7 @@ use Rattle.rings.proofs.Says.{Faces, says-ring, triangle-says, says-triangle, o
 use Rattle.order.specs.Order.{twoPlaced, oneRun}
 use Rattle.order.specs.Canonical.{Two, Canonical}
 use Rattle.order.proofs.Tests.{two-says, says-two, run-says, says-run, later-says}
-use Rattle.order.proofs.Growth.{Names, never-refused-14}
+use Rattle.order.proofs.Growth.{Names, later-follows}
 
 -- the tests of steps 7 to 11, each passed
 pub record Boarded (G : List (List ℕ)) (vs : List ℕ) : Type 0 where
@@ -180,7 +180,7 @@ module _ (G : List (List ℕ)) (vs : List ℕ) where
         run = λ k a b. run-says G vs k (post vs k) (omega arith) (P .run k a (omega arith));
         later = λ k a b.
             later-says G vs k (post vs k)
-            (never-refused-14 G vs F (boarded-outer B) N k a (omega arith) (λ j c d. (P .two j c (omega arith), P .run j c (omega arith)))
+            (later-follows G vs F (boarded-outer B) N k a (omega arith) (λ j c d. (P .two j c (omega arith), P .run j c (omega arith)))
             (P .two k a (omega arith)));
       }
 
