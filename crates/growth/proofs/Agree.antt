@@ -2,7 +2,7 @@
 -- hold at every stage; and C_k is then a list from v1 to v2, over which they can be written.
 use mathlib.Core.Logic.{_↔_, inr}
 use mathlib.Core.List.{List}
-use Prim.Native.Nat.{ℕ, _≤_}
+use Prim.Native.Nat.{ℕ}
 use lib.ListN.{length}
 use Rattle.words.specs.Positions.{post}
 use Rattle.rings.specs.Plane.{Plane}
@@ -10,7 +10,7 @@ use Rattle.order.specs.Canonical.{Canonical}
 use Rattle.growth.specs.Co.{ContourList, Co, CoOver, CoOrder}
 use Rattle.growth.proofs.FromStages.{from-stages}
 use Rattle.growth.proofs.ToStages.{to-stages}
-use Rattle.growth.proofs.Contours.{closing-wire, on-list, stage-contour}
+use Rattle.growth.proofs.Contours.{closing-wire, on-list}
 
 module _ (G : List (List ℕ)) (vs : List ℕ) (k : ℕ) (K : List ℕ) where
   -- co1 to co3 over a contour that is written as a list, and by its wires
@@ -35,6 +35,3 @@ module _ (G : List (List ℕ)) (vs : List ℕ) (k : ℕ) (K : List ℕ) where
 module _ (G : List (List ℕ)) (vs : List ℕ) (P : Plane G (post vs 1) (post vs 2) (post vs (length G))) where
   pub agree : Canonical G vs ↔ CoOrder G vs
   agree = (to-stages G vs P, from-stages G vs P)
-
-  pub contours : CoOrder G vs → (k : ℕ) → 3 ≤ k → k ≤ length vs → (K : List ℕ) × ContourList G vs k K
-  contours O = stage-contour G vs P (from-stages G vs P O)

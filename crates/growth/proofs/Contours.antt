@@ -4,7 +4,6 @@ use mathlib.Core.Logic.{inl, inr, _≢_, _↔_}
 use mathlib.Core.List.{List, [], _∷_, _++_, append-assoc}
 use Prim.Native.Nat.{ℕ, _≤_, _<_}
 use native.Mathlib.Omega.{arith}
-use native.Mathlib.Decide.{ℕ-discrete}
 use lib.ListN.{length, take}
 use Rattle.words.specs.Lists.{In, lastOf}
 use Rattle.words.specs.Positions.{post}
@@ -17,8 +16,7 @@ use Rattle.rings.proofs.Says.{Faces, faces-plane, entry-other, entry-returned}
 use Rattle.order.specs.Canonical.{Canonical}
 use Rattle.order.proofs.Contour.{Run, Contour}
 use Rattle.order.proofs.Runs.{two-ends}
-use Rattle.order.proofs.Growth.{Names, contour-at}
-use Rattle.order.proofs.Sound.{Passes, sound-passes}
+use Rattle.order.proofs.Growth.{Names}
 use Rattle.growth.specs.Co.{Face, ContourWire, ContourPost, ContourList}
 use Rattle.growth.specs.Co.Face.{same, turn, cross}
 use Rattle.growth.proofs.Named.{post-in, post-apart, not-yet}
@@ -48,7 +46,7 @@ on-list G vs k K W a = (to, from)
 
 -- while vn waits, every triangle of the exterior face has a waiting post
 module _ (G : List (List ℕ)) (A : Faces G) (placed : List ℕ) (v1 v2 vn : ℕ) (m : ¬ (In vn placed)) where
-  pub exterior-waits : {u v w : ℕ} → Face G placed v2 v1 vn u v w → ¬ (In u placed × In v placed × In w placed)
+  exterior-waits : {u v w : ℕ} → Face G placed v2 v1 vn u v w → ¬ (In u placed × In v placed × In w placed)
   exterior-waits same t = m (t .2)
   exterior-waits (turn f) t = exterior-waits f (t .2, t .0, t .1)
   exterior-waits (cross {u} {v} {w} {x} f nw g) t =
@@ -111,17 +109,17 @@ module _ (G : List (List ℕ)) (vs : List ℕ) (P : Plane G (post vs 1) (post vs
     vn-waits = not-yet G vs N k (length G) l (omega arith)
 
     -- a wire of C_k is one of the contour's circle
-    pub wire-circle : (x y : ℕ) → ContourWire G vs k x y → Adj (post vs 2 ∷ K) x y
+    wire-circle : (x y : ℕ) → ContourWire G vs k x y → Adj (post vs 2 ∷ K) x y
     wire-circle x y w =
         let z = w .1 .0 in
         C .edge x y z (w .0 .0) (w .0 .1)
         (λ i. exterior-waits G A first-k v1 v2 vn vn-waits (w .1 .2) (w .0 .0, w .0 .1, i)) (follows-after G x y z (w .1 .1))
 
     -- and the other way round: from v1 on, each post with a waiting neighbour has such a wire to the next one
-    abbrev Along : ℕ → List ℕ → Type 0
-    Along a Z = In a first-k → (x : ℕ) → In x (ring G a) → ¬ (In x first-k) → (p q : ℕ) → Adj (a ∷ Z) p q → ContourWire G vs k p q
+    abbrev WiredOn : ℕ → List ℕ → Type 0
+    WiredOn a Z = In a first-k → (x : ℕ) → In x (ring G a) → ¬ (In x first-k) → (p q : ℕ) → Adj (a ∷ Z) p q → ContourWire G vs k p q
 
-    chain : (Z X : List ℕ) (a : ℕ) → K ≡ X ++ a ∷ Z → Along a Z
+    chain : (Z X : List ℕ) (a : ℕ) → K ≡ X ++ a ∷ Z → WiredOn a Z
     chain [] X a e i x j m p q (inl g) = absurd (g .1)
     chain [] X a e i x j m p q (inr g) = absurd g
     chain (z ∷ Z) X a e i x j m p q g =
@@ -130,7 +128,7 @@ module _ (G : List (List ℕ)) (vs : List ℕ) (P : Plane G (post vs 1) (post vs
         single : Once (X ++ a ∷ z ∷ Z)
         single = subst Once e (C .once)
 
-        go : (s y : ℕ) × After G a s y × In s first-k × ¬ (In y first-k) → Along z Z → ContourWire G vs k p q
+        go : (s y : ℕ) × After G a s y × In s first-k × ¬ (In y first-k) → WiredOn z Z → ContourWire G vs k p q
         go (s, y, f, si, ym) r = on (is (C .edge a s y i si ym f)) g
           where
             is : Adj (v2 ∷ K) a s → z ≡ s
@@ -144,7 +142,7 @@ module _ (G : List (List ℕ)) (vs : List ℕ) (P : Plane G (post vs 1) (post vs
             on ez (inl b) = rw (← (b .0), ← (b .1), ez) (leave-wire G vs P O k h (omega (arith, n)) a s y i f si ym)
             on ez (inr b) = r (rw ez si) y (rw ez (around-in (ring G s) y a (A .triangle a s y f) .0)) ym p q b
 
-    pub circle-wire : (x y : ℕ) → Adj (post vs 2 ∷ K) x y → ContourWire G vs k x y
+    circle-wire : (x y : ℕ) → Adj (post vs 2 ∷ K) x y → ContourWire G vs k x y
     circle-wire x y (inl b) = rw (← (b .0), head-one K y v1 (b .1) (C .first)) (base-wire G vs P O k h (omega (arith, n)))
     circle-wire x y (inr b) = go K refl (C .first) b
       where
@@ -248,16 +246,3 @@ module _ (G : List (List ℕ)) (vs : List ℕ) (P : Plane G (post vs 1) (post vs
         from x y (inr (inr (inl b))) = rw (← (b .0), ← (b .1)) (around-outer .2)
         from x y (inr (inr (inr (inl b)))) = absurd (b .1)
         from x y (inr (inr (inr (inr b)))) = absurd b
-
-  -- at each stage C_k is a list from v1 to v2
-  pub stage-contour : (k : ℕ) → 3 ≤ k → k ≤ length vs → (K : List ℕ) × ContourList G vs k K
-  stage-contour k h l = go (ℕ-discrete k (length G))
-    where
-      T : Passes G vs
-      T = sound-passes G vs (P, O)
-
-      go : Dec (k ≡ length G) → (K : List ℕ) × ContourList G vs k K
-      go (yes e) = rw e (_, last-written (omega (arith, e)))
-      go (no m) =
-          let c = contour-at G vs A outer N k (omega arith) (omega (arith, n)) (λ j a b. (T .two j a (omega (arith, n)), T .run j a (omega (arith, n)))) in
-          (c .0, contour-written k h (omega (arith, n, m)) (c .0) (c .1))

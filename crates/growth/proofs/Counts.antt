@@ -1,4 +1,4 @@
--- Wires and corners, counted: a post's ring leaves the posts placed before it once, if each post below n has an earlier and a later neighbour.
+-- Wires and corners, counted: a post adds as many wires more than corners to the posts of a list as its ring leaves them.
 use mathlib.Core.Path.{_≡_, refl, sym, ap, _∙_, subst, subst⁻¹}
 use mathlib.Core.Logic.{inl, inr}
 use mathlib.Core.List.{List, [], _∷_, _++_, map}
@@ -74,7 +74,7 @@ sum-degrees G (suc n) l S o h k = go (cut-at n S (k n (omega arith))) (sum-degre
 
 -- ---- wires and corners among the posts of a list
 module _ (G : List (List ℕ)) (A : Faces G) where
-  -- v is a neighbour of u; b follows a at u
+  -- a is a neighbour of u; b follows a at u
   abbrev pub w : ℕ → ℕ → ℕ
   w u a = flag (in-dec a (ring G u))
 
@@ -116,7 +116,7 @@ module _ (G : List (List ℕ)) (A : Faces G) where
 
   -- what a placed entry a of z's ring counts: the corner after it, or none where the next waits
   module _ (z : ℕ) (S : List ℕ) (o : Once S) where
-    pub hit : (a b : ℕ) → After G z a b → In b S → w z a ≡ sum (t z a) S
+    hit : (a b : ℕ) → After G z a b → In b S → w z a ≡ sum (t z a) S
     hit a b f i =
         let s = sum-hit (t z a) S b o i (flag-yes (adj-dec (around (ring G z)) a b) f) (λ c j ne. t-no z a c (λ g. ne (R .next-one z a c b g f))) in
         flag-yes (in-dec a (ring G z)) (around-in (ring G z) a b f .0) ∙ sym s

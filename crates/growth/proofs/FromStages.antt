@@ -113,7 +113,7 @@ module _ (G : List (List ℕ)) (vs : List ℕ) (P : Plane G (post vs 1) (post vs
             step-to (first .0) 2 (omega arith) (omega arith) nv
             (λ e2. post-apart G vs N 1 2 (omega arith) (omega arith) (omega (arith, n)) (e ∙ sym e2))
 
-    pub two-at : Two G vs k (post vs k)
+    two-at : Two G vs k (post vs k)
     two-at = record {
       a = second .0;
       b = first .0;

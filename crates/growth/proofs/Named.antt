@@ -32,14 +32,14 @@ module _ (vs : List ℕ) where
   post-in k j h i l = take-in k vs (j - 1) (omega arith) (omega arith)
 
 module _ (G : List (List ℕ)) (vs : List ℕ) (N : Names (length G) vs) where
-  pub post-below : (k : ℕ) → 1 ≤ k → k ≤ length G → post vs k < length G
+  post-below : (k : ℕ) → 1 ≤ k → k ≤ length G → post vs k < length G
   post-below k h i = N .below (post vs k) (place-in vs (k - 1) (omega (arith, N .all)))
 
   -- length G is no post's name
   pub post-other : (k : ℕ) → 1 ≤ k → k ≤ length G → post vs k ≢ length G
   post-other k h i e = omega (arith, e, post-below k h i)
 
-  pub post-one : (i j : ℕ) → 1 ≤ i → i ≤ length G → 1 ≤ j → j ≤ length G → post vs i ≡ post vs j → i ≡ j
+  post-one : (i j : ℕ) → 1 ≤ i → i ≤ length G → 1 ≤ j → j ≤ length G → post vs i ≡ post vs j → i ≡ j
   post-one i j a b c d e =
       let s = once-different vs (N .once) (i - 1) (j - 1) (omega (arith, N .all)) (omega (arith, N .all)) e in
       omega arith

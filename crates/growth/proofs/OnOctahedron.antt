@@ -18,7 +18,6 @@ use Rattle.block.specs.Block.{badEntry, badDegree}
 use Rattle.rings.specs.Rings.{ring, around, next, allNext, follows, entryRule, ringRule, triangleRule, outerRule}
 use Rattle.rings.specs.Plane.{Plane}
 use Rattle.order.specs.Order.{twoPlaced, from, rest, leads, oneRun, oneLater}
-use Rattle.order.proofs.Runs.{rings}
 use Rattle.order.specs.Canonical.{Canonical}
 use Rattle.order.proofs.Tests.{says-two, later-says}
 use Rattle.order.proofs.Sound.{tested-names, passes-sound}

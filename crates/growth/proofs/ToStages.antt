@@ -123,8 +123,8 @@ module _ (G : List (List ℕ)) (vs : List ℕ) (P : Plane G (post vs 1) (post vs
         go a f = elim (in-dec a (take k vs)) [ yes i ↦ i | no m ↦ absurd (f m) ]
 
   -- ---- 2-connected
-  abbrev Tied : ℕ → Type 0
-  Tied k = (z a b : ℕ) → In a (take k vs) → In b (take k vs) → a ≢ z → b ≢ z → Joined G (take k vs) z a b
+  abbrev AnyTwo : ℕ → Type 0
+  AnyTwo k = (z a b : ℕ) → In a (take k vs) → In b (take k vs) → a ≢ z → b ≢ z → Joined G (take k vs) z a b
 
   v1-v2 : Wire G (take 2 vs) v1 v2
   v1-v2 = (
@@ -133,8 +133,8 @@ module _ (G : List (List ℕ)) (vs : List ℕ) (P : Plane G (post vs 1) (post vs
     P .bottom,
   )
 
-  tied-two : Tied 2
-  tied-two z a b ia ib na nb = go (subst (In a) both ia) (subst (In b) both ib)
+  any-two-first : AnyTwo 2
+  any-two-first z a b ia ib na nb = go (subst (In a) both ia) (subst (In b) both ib)
     where
       both : take 2 vs ≡ v1 ∷ v2 ∷ []
       both = take-two vs (omega (arith, n, two-posts))
@@ -151,7 +151,7 @@ module _ (G : List (List ℕ)) (vs : List ℕ) (P : Plane G (post vs 1) (post vs
       go (inr (inl e)) (inr (inr i)) = absurd i
       go (inr (inr i)) j = absurd i
 
-  module _ (k : ℕ) (h : 2 ≤ k) (l : suc k ≤ length vs) (r : Tied k) (z : ℕ) where
+  module _ (k : ℕ) (h : 2 ≤ k) (l : suc k ≤ length vs) (r : AnyTwo k) (z : ℕ) where
     abbrev v : ℕ
     v = getD vs k 0
 
@@ -208,8 +208,8 @@ module _ (G : List (List ℕ)) (vs : List ℕ) (P : Plane G (post vs 1) (post vs
         onward p here = p
         onward p (along q w ne) = along (onward p q) w ne
 
-    tied-next : (a b : ℕ) → In a now → In b now → a ≢ z → b ≢ z → Joined G now z a b
-    tied-next a b ia ib na nb = go (old-or-v a ia) (old-or-v b ib)
+    any-two-next : (a b : ℕ) → In a now → In b now → a ≢ z → b ≢ z → Joined G now z a b
+    any-two-next a b ia ib na nb = go (old-or-v a ia) (old-or-v b ib)
       where
         go : In a old ⊎ (a ≡ v) → In b old ⊎ (b ≡ v) → Joined G now z a b
         go (inl i) (inl j) = wider (r z a b i j na nb)
@@ -217,14 +217,14 @@ module _ (G : List (List ℕ)) (vs : List ℕ) (P : Plane G (post vs 1) (post vs
         go (inr e) (inl j) = rw e (from-new b j nb (rw e at na))
         go (inr e) (inr f) = rw (e, f) here
 
-  tied : (k : ℕ) → suc (suc k) ≤ length vs → Tied (suc (suc k))
-  tied zero l = tied-two
-  tied (suc k) l = tied-next (suc (suc k)) (omega arith) l (tied k (omega arith))
+  any-two : (k : ℕ) → suc (suc k) ≤ length vs → AnyTwo (suc (suc k))
+  any-two zero l = any-two-first
+  any-two (suc k) l = any-two-next (suc (suc k)) (omega arith) l (any-two k (omega arith))
 
   two-connected : (k : ℕ) → 3 ≤ k → k ≤ length vs → TwoConnected G (take k vs)
   two-connected k h l =
       let q : suc (suc (k - 2)) ≡ k = omega arith in
-      (omega (arith, length-take k vs), subst Tied q (tied (k - 2) (omega arith)))
+      (omega (arith, length-take k vs), subst AnyTwo q (any-two (k - 2) (omega arith)))
 
   -- ---- a placed neighbour of a waiting post is on the contour
   module _ (k : ℕ) (h : 3 ≤ k) (l : k ≤ length vs) where

@@ -6,9 +6,9 @@ use mathlib.Core.List.{List}
 use Prim.Native.Nat.{ℕ}
 use Rattle.words.specs.Lists.{In}
 use Rattle.rings.specs.Rings.{ring}
-use Rattle.rings.specs.Plane.{Wire}
+use Rattle.rings.specs.Plane.{Wire, SameTriangle}
 use Rattle.rings.proofs.Around.{After, after-follows, around-in}
-use Rattle.rings.proofs.Says.{Faces, entry-other}
+use Rattle.rings.proofs.Says.{Faces, entry-other, next-corner}
 use Rattle.order.proofs.Runs.{rings}
 use Rattle.growth.specs.Co.{Face, Border, Triangular}
 use Rattle.growth.specs.Co.Face.{same, turn, cross}
@@ -32,9 +32,6 @@ module _ (G : List (List ℕ)) (A : Faces G) (placed : List ℕ) where
 
   -- a triangle of placed posts is a face by itself
   module _ (u v w : ℕ) (f : After G u v w) (iu : In u placed) (iv : In v placed) (iw : In w placed) where
-    abbrev Same : ℕ → ℕ → ℕ → Type 0
-    Same x y z = ((x ≡ u) × (y ≡ v) × (z ≡ w)) ⊎ (((x ≡ v) × (y ≡ w) × (z ≡ u)) ⊎ ((x ≡ w) × (y ≡ u) × (z ≡ v)))
-
     at-v : After G v w u
     at-v = A .triangle u v w f
 
@@ -50,19 +47,14 @@ module _ (G : List (List ℕ)) (A : Faces G) (placed : List ℕ) where
     wu : Wire G placed w u
     wu = (iw, iu, around-in (ring G w) u v at-w .0)
 
-    turned : {x y z : ℕ} → Same x y z → Same y z x
-    turned (inl e) = inr (inl (e .1, e .2, e .0))
-    turned (inr (inl e)) = inr (inr (e .1, e .2, e .0))
-    turned (inr (inr e)) = inl (e .1, e .2, e .0)
-
-    wired : {x y z : ℕ} → Same x y z → Wire G placed x y
+    wired : {x y z : ℕ} → SameTriangle u v w x y z → Wire G placed x y
     wired (inl e) = rw (e .0, e .1) uv
     wired (inr (inl e)) = rw (e .0, e .1) vw
     wired (inr (inr e)) = rw (e .0, e .1) wu
 
-    alone : {x y z : ℕ} → Face G placed u v w x y z → Same x y z
+    alone : {x y z : ℕ} → Face G placed u v w x y z → SameTriangle u v w x y z
     alone same = inl (refl, refl, refl)
-    alone (turn t) = turned (alone t)
+    alone (turn t) = next-corner (alone t)
     alone (cross t n g) = absurd (n (wired (alone t)))
 
     pub sides : Border G placed u v w u v × Border G placed u v w v w × Border G placed u v w w u

@@ -73,23 +73,31 @@ pub record ContourList (G : List (List ℕ)) (vs : List ℕ) (k : ℕ) (K : List
   pub once : Different K
   pub wires : (x y : ℕ) → ContourWire G vs k x y ↔ (X Y : List ℕ) × (around K ≡ X ++ x ∷ y ∷ Y)
 
+-- each face of G_k but the exterior one is a triangle
+abbrev pub Triangulated : List (List ℕ) → List ℕ → ℕ → Type 0
+Triangulated G vs k = (u v w : ℕ) → Follows G u v w → ¬ (Exterior G vs k u v w) → Triangular G (take k vs) u v w
+
+-- below n, the next post lies in the exterior face of G_k
+abbrev pub NextOutside : List (List ℕ) → List ℕ → ℕ → Type 0
+NextOutside G vs k = k < length vs → Outside G vs k (post vs (suc k))
+
 -- co1, co2 and co3 at stage k
 pub record Co (G : List (List ℕ)) (vs : List ℕ) (k : ℕ) : Type 0 where
-  -- co1: G_k is 2-connected, and each face but the exterior one is a triangle
+  -- co1: G_k is 2-connected, and all its internal faces are triangles
   pub co1-two-connected : TwoConnected G (take k vs)
-  pub co1-triangulated : (u v w : ℕ) → Follows G u v w → ¬ (Exterior G vs k u v w) → Triangular G (take k vs) u v w
+  pub co1-triangulated : Triangulated G vs k
   -- co2: C_k contains the wire v1 v2 (it follows from the outer triangle rule, and is stated as the document states it)
   pub co2-base : ContourWire G vs k (post vs 1) (post vs 2) ⊎ ContourWire G vs k (post vs 2) (post vs 1)
   -- co3: below n, the next post lies in the exterior face, and its neighbours in G_k are on C_k
-  pub co3-outside : k < length vs → Outside G vs k (post vs (suc k))
+  pub co3-outside : NextOutside G vs k
   pub co3-near : k < length vs → (a : ℕ) → In a (take k vs) → In a (ring G (post vs (suc k))) → ContourPost G vs k a
 
 -- the same written over the contour: the list K writes C_k, closed by the wire v1 v2 (co2), and the next post's neighbours in G_k stand in K
 pub record CoOver (G : List (List ℕ)) (vs : List ℕ) (k : ℕ) (K : List ℕ) : Type 0 where
   pub contour : ContourList G vs k K
   pub co1-two-connected : TwoConnected G (take k vs)
-  pub co1-triangulated : (u v w : ℕ) → Follows G u v w → ¬ (Exterior G vs k u v w) → Triangular G (take k vs) u v w
-  pub co3-outside : k < length vs → Outside G vs k (post vs (suc k))
+  pub co1-triangulated : Triangulated G vs k
+  pub co3-outside : NextOutside G vs k
   pub co3-near : k < length vs → (a : ℕ) → In a (take k vs) → In a (ring G (post vs (suc k))) → In a K
 
 -- document 002's canonical order of a triangulated plane graph: it names each post once, and co1 to co3 hold at each stage from 3 to n

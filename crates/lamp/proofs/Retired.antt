@@ -1,4 +1,4 @@
--- Number 14 was never given: where the rows before it pass, a post below n has a later neighbour. So its removal changes no reply.
+-- Number 14 is never given: where the rows before it pass, a post below n has a later neighbour. So a table without it gives the same replies.
 use Prim.Native.Nat.{ℕ, zero, suc, _-_, _≤_, _<_}
 use mathlib.Core.Path.{_≡_, refl, sym, ap, _∙_}
 use mathlib.Core.Logic.{_≢_}
@@ -27,7 +27,7 @@ use Rattle.lamp.proofs.Given.{given-end, given-skip, given-stop, given-
 use Rattle.lamp.proofs.Accepts.{lists-count, none-boarded, none-position}
 
 -- ---- a reply's number is that of a row
-pub none-given : {A : Type 0} (answer : List ℕ → A) (s : List ℕ) (rows : List Row) (number place : ℕ) → NoneIs number rows
+none-given : {A : Type 0} (answer : List ℕ → A) (s : List ℕ) (rows : List Row) (number place : ℕ) → NoneIs number rows
     → given rows s answer ≢ refused number place
 none-given answer s [] number place h e = not-both (sym e ∙ given-end s answer)
 none-given answer s (r ∷ rows) number place h e = go (r .when s) refl (none-given answer s rows number place (h .1))
@@ -100,10 +100,10 @@ module _ (s : List ℕ) (h : NoneApplies blockRows s) where
   vs = order s
 
   -- 12 and 13 pass before position k
-  abbrev Before : ℕ → Type 0
-  Before k = (j : ℕ) → 3 ≤ j → j < k → (twoPlaced G (earlier vs j) (post vs j) ≡ true) × (oneRun G (earlier vs j) (post vs j) ≡ true)
+  abbrev PassedBefore : ℕ → Type 0
+  PassedBefore k = (j : ℕ) → 3 ≤ j → j < k → (twoPlaced G (earlier vs j) (post vs j) ≡ true) × (oneRun G (earlier vs j) (post vs j) ≡ true)
 
-  passed : (k : ℕ) → 3 ≤ k → Before k → NoneApplies (positionRows k) s → retiredRow k .when s ≡ false
+  passed : (k : ℕ) → 3 ≤ k → PassedBefore k → NoneApplies (positionRows k) s → retiredRow k .when s ≡ false
   passed k l b p =
       let B = none-boarded s h in
       let n = lists-count s in
@@ -113,7 +113,7 @@ module _ (s : List ℕ) (h : NoneApplies blockRows s) where
       false-and (ltb k (posts s)) (not (oneLater G (later vs k) (post vs k)))
       (λ t. ap not (later-follows G vs F o N k l (omega (arith, ltb-true k (posts s) t, n)) b (none-position s k p .0)))
 
-  next : (k : ℕ) → Before k → NoneApplies (positionRows k) s → Before (suc k)
+  next : (k : ℕ) → PassedBefore k → NoneApplies (positionRows k) s → PassedBefore (suc k)
   next k b p j l m = go (ℕ-discrete j k)
     where
       go : Dec (j ≡ k) → (twoPlaced G (earlier vs j) (post vs j) ≡ true) × (oneRun G (earlier vs j) (post vs j) ≡ true)
@@ -121,7 +121,7 @@ module _ (s : List ℕ) (h : NoneApplies blockRows s) where
       go (no n) = b j l (omega arith)
 
   module _ {A : Type 0} (answer : List ℕ → A) (after : List Row) where
-    from-position : (m k : ℕ) → 3 ≤ k → Before k
+    from-position : (m k : ℕ) → 3 ≤ k → PassedBefore k
         → given (flatMap paperPositionRows (numbers k m) ++ after) s answer ≡ given (flatMap positionRows (numbers k m) ++ after) s answer
     unfolding flatMap numbers
     from-position zero k l b = refl

@@ -1,4 +1,4 @@
--- Number 14, retired: the paper's table still with it, for the statement that no list of bytes was ever answered 14.
+-- Number 14, retired: the paper's table with its row 14, for the statement that no list of bytes is answered 14.
 use Prim.Native.Nat.{ℕ, _-_}
 use mathlib.Core.Path.{_≡_}
 use mathlib.Core.Logic.{_≢_}

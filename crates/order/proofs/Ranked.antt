@@ -10,10 +10,10 @@ use lib.ListN.{length, getD, drop, set}
 use lib.Seq.{slice, length-slice, getD-set-same, getD-set-other}
 use borrow.Author.Tests.{lt-ltb, le-ltb}
 use Rattle.words.specs.Lists.{In, mem}
-use Rattle.words.specs.Positions.{post, earlier, later, Earlier, Later}
+use Rattle.words.specs.Positions.{post, earlier, Earlier}
 use Rattle.words.proofs.Lists.{all-there}
 use Rattle.words.proofs.Tests.{is-true, is-false, mem-in, in-mem, in-place, different-once}
-use Rattle.words.proofs.Positions.{earlier-in, in-earlier, later-in, in-later, post-suc}
+use Rattle.words.proofs.Positions.{earlier-in, in-earlier, post-suc}
 use Rattle.block.specs.Block.{badEntry}
 use Rattle.rings.specs.Rings.{around}
 use Rattle.rings.proofs.Turns.{pair-here, pair-next, around-here, around-after, around-first}
@@ -33,19 +33,6 @@ module _ (vs rank : List ℕ) (R : Ranked vs rank) (a : ℕ) (h : a < length vs)
         where
           over : Earlier vs k a → ⊥
           over e = n (rw (← (e .3), R .position (e .0) (e .1) (omega (arith, e .2))) (e .2))
-
-  -- a stands after position k: its position is not below k + 1
-  pub after-says : not (ltb (getD rank a 0) (k + 1)) ≡ mem (later vs k) a
-  after-says = go (decLt (getD rank a 0) (k + 1))
-    where
-      go : Dec (getD rank a 0 < k + 1) → not (ltb (getD rank a 0) (k + 1)) ≡ mem (later vs k) a
-      go (no n) =
-          rw (le-ltb (getD rank a 0) (k + 1) (omega arith))
-          (sym (is-true (mem (later vs k) a) (in-mem (later vs k) a (later-in vs k a (getD rank a 0, omega arith, R .name a h .1, R .name a h .2)))))
-      go (yes l) = rw (lt-ltb (getD rank a 0) (k + 1) l) (sym (is-false (mem (later vs k) a) (λ t. over (in-later vs k a (mem-in (later vs k) a t)))))
-        where
-          over : Later vs k a → ⊥
-          over e = omega (arith, rw (e .3) at (R .position (e .0) (omega (arith, e .1)) (e .2)), e .1)
 
 -- ---- filling in the positions
 

@@ -11,7 +11,7 @@ use Rattle.words.proofs.Lists.{Adj, Once, adj-cases, adj-init, adj-tail, head-o
 use Rattle.words.proofs.Positions.{in-take, take-in, post-new}
 use Rattle.rings.specs.Plane.{Follows, OuterTriangle}
 use Rattle.rings.proofs.Around.{After, follows-after}
-use Rattle.rings.proofs.Says.{Faces}
+use Rattle.rings.proofs.Says.{Faces, next-corner}
 use Rattle.order.proofs.Contour.{Rings, Contour}
 use Rattle.order.proofs.Runs.{rings}
 use Rattle.order.proofs.Sound.{Passes, boarded-names, boarded-faces, boarded-outer}
@@ -26,11 +26,6 @@ use Rattle.plane.proofs.Sheet.{turns}
 use Rattle.plane.proofs.Tied.{Tied, tied-third, third-tri, tied-next, tri-old, tri-new}
 use Rattle.plane.proofs.Every.{three-differ, placed-at}
 
-turn-outer : {v1 v2 vn u a b : ℕ} → OuterTriangle v1 v2 vn u a b → OuterTriangle v1 v2 vn a b u
-turn-outer (inl (e, f, g)) = inr (inl (f, g, e))
-turn-outer (inr (inl (e, f, g))) = inr (inr (f, g, e))
-turn-outer (inr (inr (e, f, g))) = inl (f, g, e)
-
 -- one of the three posts was placed over the two others, or it is the outer one
 data Accounted {C : List ℕ} (B : Build C) (v1 v2 vn u a b : ℕ) : Type 0 where
   over-u : Tri B a b u → Accounted B v1 v2 vn u a b
@@ -42,7 +37,7 @@ turn-accounted : {C : List ℕ} {B : Build C} {v1 v2 vn u a b : ℕ} → Account
 turn-accounted (over-u h) = over-b h
 turn-accounted (over-a h) = over-u h
 turn-accounted (over-b h) = over-a h
-turn-accounted (outer h) = outer (turn-outer h)
+turn-accounted (outer h) = outer (next-corner h)
 
 -- all three placed: the new post is none of them, or by turning the first
 all-faces : (F : ℕ → ℕ → ℕ → Type 0) (R : Rings F) (T : ℕ → ℕ → ℕ → Type 0) (rot : (u a b : ℕ) → T u a b → T a b u) (done : List ℕ) (v : ℕ)

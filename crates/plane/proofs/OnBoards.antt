@@ -23,3 +23,8 @@ outer-T h = omega arith
 pub inner-D : PositiveArea (places (stage listsD orderD)) 0 3 4
 unfolding flatMap first mem allOf anyOf from lead rest leads begins run third upTo onFrom placeOver place placeAll stage
 inner-D = omega arith
+
+-- 4 follows 0 at 1
+pub outer-D : ¬ (PositiveArea (places (stage listsD orderD)) 1 0 4)
+unfolding flatMap first mem allOf anyOf from lead rest leads begins run third upTo onFrom placeOver place placeAll stage
+outer-D h = omega arith

@@ -1,6 +1,6 @@
 -- What the tests of rings, triangles and the outer triangle say, and the other way round.
 use mathlib.Core.Path.{_≡_}
-use mathlib.Core.Logic.{_≢_}
+use mathlib.Core.Logic.{inl, inr, _≢_}
 use mathlib.Core.Bool.{true, not}
 use mathlib.Core.List.{List, []}
 use Prim.Native.Nat.{ℕ, _<_}
@@ -12,8 +12,14 @@ use Rattle.words.specs.Lists.{In, Different, mem, count}
 use Rattle.words.proofs.Lists.{Once}
 use Rattle.words.proofs.Tests.{holds, is-true, both, join, mem-in, in-mem, all-says, says-all, once-count, count-once, different-once, once-different}
 use Rattle.rings.specs.Rings.{ring, around, follows, entryRule, ringRule, triangleRule, outerRule}
-use Rattle.rings.specs.Plane.{Follows, Plane}
+use Rattle.rings.specs.Plane.{Follows, SameTriangle, Plane}
 use Rattle.rings.proofs.Around.{After, follows-after, after-follows, next-says, says-next, all-next-says, says-all-next, around-in}
+
+-- a triangle may be read on from its next corner
+pub next-corner : {a b c u v w : ℕ} → SameTriangle a b c u v w → SameTriangle a b c v w u
+next-corner (inl (e, f, g)) = inr (inl (f, g, e))
+next-corner (inr (inl (e, f, g))) = inr (inr (f, g, e))
+next-corner (inr (inr (e, f, g))) = inl (f, g, e)
 
 -- only a name below n has neighbours
 pub name : (G : List (List ℕ)) (u a : ℕ) → In a (ring G u) → u < length G

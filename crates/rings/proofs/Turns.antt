@@ -9,7 +9,7 @@ use lib.Dec.{eqb}
 use borrow.Author.Tests.{eq-eqb, ne-eqb}
 use lib.ListN.{length, getD, take, drop, length-append, List·getD-append}
 use lib.Seq.{slice, slice-cons, slice-empty, length-slice, drop-cons, drop-append-seam, getD-at, getD-take, getD-drop}
-use Rattle.words.specs.Lists.{mem, count, allOf, anyOf}
+use Rattle.words.specs.Lists.{mem, count, allOf}
 use Rattle.rings.specs.Rings.{around, next, allNext}
 
 -- ---- the entries from j to e
@@ -29,14 +29,6 @@ module _ (l : List ℕ) (j e : ℕ) (h : j < e) (k : e ≤ length l) where
   pub all-step : (p : ℕ → Bool) → allOf p (slice j e l) ≡ (p (getD l j 0) && allOf p (slice (j + 1) e l))
   unfolding allOf
   all-step p = ap (allOf p) part-step
-
-  pub any-step : (p : ℕ → Bool) → anyOf p (slice j e l) ≡ (p (getD l j 0) || anyOf p (slice (j + 1) e l))
-  unfolding anyOf
-  any-step p = ap (anyOf p) part-step
-
-pub any-end : (l : List ℕ) (e : ℕ) (p : ℕ → Bool) → anyOf p (slice e e l) ≡ false
-unfolding anyOf
-any-end l e p = ap (anyOf p) (slice-empty e l)
 
 pub mem-end : (l : List ℕ) (e a : ℕ) → mem (slice e e l) a ≡ false
 unfolding mem

@@ -21,10 +21,13 @@ pub data Reached (G : List (List ℕ)) (v1 : ℕ) : ℕ → Type 0 where
 abbrev pub Wire : List (List ℕ) → List ℕ → ℕ → ℕ → Type 0
 Wire G placed a b = In a placed × In b placed × In b (ring G a)
 
--- u, a, b is the outer triangle v2, v1, vn in this turn, read from any of its posts on (in the other turn, v1, v2, vn is an inner one where n = 3)
+-- u, v, w is the triangle a, b, c in the same turn, read from any of its posts on
+abbrev pub SameTriangle : ℕ → ℕ → ℕ → ℕ → ℕ → ℕ → Type 0
+SameTriangle a b c u v w = ((u ≡ a) × (v ≡ b) × (w ≡ c)) ⊎ (((u ≡ b) × (v ≡ c) × (w ≡ a)) ⊎ ((u ≡ c) × (v ≡ a) × (w ≡ b)))
+
+-- it is the outer one, v2, v1, vn in this turn (in the other turn, v1, v2, vn is an inner one where n = 3)
 abbrev pub OuterTriangle : ℕ → ℕ → ℕ → ℕ → ℕ → ℕ → Type 0
-OuterTriangle v1 v2 vn u a b =
-    ((u ≡ v2) × (a ≡ v1) × (b ≡ vn)) ⊎ (((u ≡ v1) × (a ≡ vn) × (b ≡ v2)) ⊎ ((u ≡ vn) × (a ≡ v2) × (b ≡ v1)))
+OuterTriangle v1 v2 vn u v w = SameTriangle v2 v1 vn u v w
 
 -- the lists form a triangulated plane graph with the outer triangle v1, v2, vn
 pub record Plane (G : List (List ℕ)) (v1 v2 vn : ℕ) : Type 0 where
