@@ -6,5 +6,6 @@ pub mod Starts
 pub mod Found
 pub mod Growth
 pub mod Sound
+pub mod Fitting
 pub mod Ranked
 pub mod Rule

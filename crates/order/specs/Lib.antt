@@ -1,3 +1,4 @@
 pub mod Order
 pub mod Canonical
+pub mod Fitting
 pub mod Held

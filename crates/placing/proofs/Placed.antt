@@ -43,10 +43,6 @@ module _ (G : List (List ℕ)) (t : Stage) (v : ℕ) (s : Step G t v) where
   unfolding place placeOver
   place-x-old u n = rw (eqb-other u v n, inner-is, right-is)
 
-  pub place-y-old : (u : ℕ) → ¬ (u ≡ v) → place G t v .y u ≡ t .y u
-  unfolding place placeOver
-  place-y-old u n = rw (eqb-other u v n)
-
   -- the ends of the run are old posts
   pub p-placed : In (s .p) (t .placed)
   p-placed = s .on-placed (s .p) (rw (s .before) (in-right (s .p) (s .X) _ (inl refl)))
@@ -59,20 +55,3 @@ module _ (G : List (List ℕ)) (t : Stage) (v : ℕ) (s : Step G t v) where
 
   pub q-old : ¬ (s .q ≡ v)
   q-old e = s .new (rw e at q-placed)
-
-  x-new : place G t v .x v
-      ≡ (t .x (s .p) + shift t (s .M) (s .q ∷ s .Y) (s .p) + (t .x (s .q) + shift t (s .M) (s .q ∷ s .Y) (s .q)) + t .y (s .q) - t .y (s .p)) / 2
-  unfolding place placeOver
-  x-new = rw (eqb-same v, inner-is, right-is, first-is, last-is)
-
-  y-new : place G t v .y v
-      ≡ (t .x (s .q) + shift t (s .M) (s .q ∷ s .Y) (s .q) - (t .x (s .p) + shift t (s .M) (s .q ∷ s .Y) (s .p)) + t .y (s .q) + t .y (s .p)) / 2
-  unfolding place placeOver
-  y-new = rw (eqb-same v, inner-is, right-is, first-is, last-is)
-
-  -- the new post, from w_p and w_q where these stand now
-  pub place-x-new : place G t v .x v ≡ (place G t v .x (s .p) + place G t v .x (s .q) + t .y (s .q) - t .y (s .p)) / 2
-  place-x-new = rw (place-x-old (s .p) p-old, place-x-old (s .q) q-old) x-new
-
-  pub place-y-new : place G t v .y v ≡ (place G t v .x (s .q) - place G t v .x (s .p) + t .y (s .q) + t .y (s .p)) / 2
-  place-y-new = rw (place-x-old (s .p) p-old, place-x-old (s .q) q-old) y-new

@@ -10,17 +10,18 @@ use lib.ListN.{length, getD, take, length-append}
 use lib.Seq.{take-suc, take-at, getD-take, length-take-le}
 use Rattle.words.specs.Lists.{In}
 use Rattle.words.specs.Positions.{post, earlier}
-use Rattle.words.proofs.Lists.{Adj, Once, in-cases, once-split, last-append}
+use Rattle.words.proofs.Lists.{Adj, Once, once-split, last-append}
 use Rattle.words.proofs.Tests.{eqb-same, eqb-other}
 use Rattle.words.proofs.Positions.{post-new, earlier-next}
 use Rattle.rings.specs.Rings.{ring}
-use Rattle.rings.specs.Plane.{Wire}
+use Rattle.rings.specs.Plane.{Plane}
 use Rattle.rings.proofs.Around.{After}
 use Rattle.rings.proofs.Says.{entry-other, entry-returned}
 use Rattle.order.specs.Order.{run}
 use Rattle.order.proofs.Contour.{Run, Contour}
-use Rattle.order.proofs.Growth.{Grown, grow-at, start-at, run-near, run-whole}
-use Rattle.order.proofs.Sound.{Passes, boarded-names, boarded-faces, boarded-outer}
+use Rattle.order.proofs.Growth.{Grown, run-near, run-whole}
+use Rattle.order.specs.Fitting.{FitsSoFar}
+use Rattle.order.proofs.Fitting.{fits-faces, fits-outer, fits-once, fits-start, fits-grow}
 use Rattle.placing.specs.Stages.{Stage, third, upTo, onFrom, inner, placeOver, place, placeAll, stage}
 
 -- ---- a contour cut at the ends of a run
@@ -130,7 +131,7 @@ module _ (G : List (List ℕ)) (vs : List ℕ) where
   pub stage-placed : (k : ℕ) → 3 ≤ k → k ≤ length vs → stage G (take k vs) .placed ≡ take k vs
   stage-placed k h i = stage-has G (take k vs) (let l = length-take-le k vs i in omega arith)
 
--- ---- an order that passes the tests
+-- ---- a list that fits so far, on plane rings
 -- from 3 on, a number at a time
 from-three : (Q : ℕ → Type 0) (n : ℕ) → Q 3 → ((k : ℕ) → 3 ≤ k → k < n → Q k → Q (k + 1)) → (k : ℕ) → 3 ≤ k → k ≤ n → Q k
 from-three Q n b f zero h i = absurd (omega arith)
@@ -149,25 +150,28 @@ two-long (x ∷ X) M Y v1 v2 v3 p q e = absurd (omega (arith, ap length e, lengt
 at-ends : (G : List (List ℕ)) (a b c d : ℕ) (placed K : List ℕ) → a ≡ c → b ≡ d → Contour (After G) c d placed K → Contour (After G) a b placed K
 at-ends G a b c d placed K e f C = rw (e, f) C
 
-module _ (G : List (List ℕ)) (vs : List ℕ) (A : Passes G vs) where
+module _ (G : List (List ℕ)) (vn : ℕ) (vs : List ℕ) (P : Plane G (post vs 1) (post vs 2) vn) (A : FitsSoFar G vn vs) where
+  -- the contour of the posts placed, from v1 to v2
+  abbrev From : List ℕ → List ℕ → Type 0
+  From placed K = Contour (After G) (post vs 1) (post vs 2) placed K
+
   -- the step to the post in position k
-  step : (k : ℕ) → 3 ≤ k → k ≤ length G → (t : Stage) → t .placed ≡ earlier vs k → Contour (After G) (post vs 1) (post vs 2) (t .placed) (t .contour) → Step G t (post vs k)
+  step : (k : ℕ) → 3 ≤ k → k ≤ length vs → (t : Stage) → t .placed ≡ earlier vs k → From (t .placed) (t .contour) → Step G t (post vs k)
   step k h i t e C =
-      let n : length vs ≡ length G = A .board .all in
       go (subst⁻¹ (λ (l : List ℕ). Grown G (post vs 1) (post vs 2) l (t .contour) (post vs k)) e
-      (grow-at G vs (boarded-faces G vs (A .board)) (boarded-outer G vs (A .board)) (boarded-names G vs (A .board)) k h i (t .contour)
-      (subst (λ (l : List ℕ). Contour (After G) (post vs 1) (post vs 2) l (t .contour)) e C) (A .two k h i) (A .run k h i)))
-      (λ j. post-new vs (boarded-names G vs (A .board) .once) k (omega arith) (omega arith) (subst (In (post vs k)) e j))
+      (fits-grow G vn vs P A k h i (t .contour) (subst (λ (l : List ℕ). From l (t .contour)) e C)))
+      (λ j. post-new vs (fits-once G vn vs P A) k (omega arith) i (subst (In (post vs k)) e j))
       (ap (λ (l : List ℕ). post l 1) e ∙ getD-take (k - 1) vs 0 0 (omega arith))
       (ap (λ (l : List ℕ). post l 2) e ∙ getD-take (k - 1) vs 1 0 (omega arith))
     where
       v : ℕ
       v = post vs k
 
-      go : Grown G (post vs 1) (post vs 2) (t .placed) (t .contour) v → ¬ (In v (t .placed)) → post (t .placed) 1 ≡ post vs 1 → post (t .placed) 2 ≡ post vs 2 → Step G t v
+      go : Grown G (post vs 1) (post vs 2) (t .placed) (t .contour) v → ¬ (In v (t .placed)) → post (t .placed) 1 ≡ post vs 1
+          → post (t .placed) 2 ≡ post vs 2 → Step G t v
       go g new e1 e2 =
-          let F = boarded-faces G vs (A .board) in
-          let all = run-whole G F (post vs 1) (post vs 2) (post vs (length G)) (boarded-outer G vs (A .board)) (t .placed) (t .contour) v g new in
+          let F = fits-faces G vn vs P A in
+          let all = run-whole G F (post vs 1) (post vs 2) vn (fits-outer G vn vs P A) (t .placed) (t .contour) v g new in
           let a = place-contour G t v (g .X) (g .M) (g .Y) (g .p) (g .q) (g .run-is) (g .before) (C .once) in
           record {
             X = g .X;
@@ -189,76 +193,48 @@ module _ (G : List (List ℕ)) (vs : List ℕ) (A : Passes G vs) where
             no-turn = rw (e1, e2) (g .no-turn);
             old = at-ends G _ _ (post vs 1) (post vs 2) (t .placed) (t .contour) e1 e2 C;
             now = at-ends G _ _ (post vs 1) (post vs 2) (place G t v .placed) (place G t v .contour) e1 e2
-                (subst⁻¹ (λ (l : List ℕ). Contour (After G) (post vs 1) (post vs 2) l (place G t v .contour)) (place-placed G t v)
-                (subst⁻¹ (Contour (After G) (post vs 1) (post vs 2) (t .placed ++ v ∷ [])) a (g .now)));
+                (subst⁻¹ (λ (l : List ℕ). From l (place G t v .contour)) (place-placed G t v) (subst⁻¹ (From (t .placed ++ v ∷ [])) a (g .now)));
           }
 
-  third-step : 3 ≤ length G → Grown G (post vs 1) (post vs 2) (earlier vs 3) (post vs 1 ∷ post vs 2 ∷ []) (post vs 3)
-  third-step h =
-      let F = boarded-faces G vs (A .board) in
-      let o = boarded-outer G vs (A .board) in
-      let N = boarded-names G vs (A .board) in
-      grow-at G vs F o N 3 (omega arith) h (post vs 1 ∷ post vs 2 ∷ []) (start-at G vs F o N (omega arith)) (A .two 3 (omega arith) h) (A .run 3 (omega arith) h)
-
   -- stage 3's contour is v1, v3, v2
-  pub third-contour : 3 ≤ length G → Contour (After G) (post vs 1) (post vs 2) (take 3 vs) (post vs 1 ∷ post vs 3 ∷ post vs 2 ∷ [])
+  pub third-contour : 3 ≤ length vs → Contour (After G) (post vs 1) (post vs 2) (take 3 vs) (post vs 1 ∷ post vs 3 ∷ post vs 2 ∷ [])
   third-contour h =
-      let n : length vs ≡ length G = A .board .all in
-      let g = third-step h in
-      rw (earlier-next vs 3 (omega arith) (omega arith))
-      (subst (Contour (After G) (post vs 1) (post vs 2) (earlier vs 3 ++ post vs 3 ∷ [])) (two-long (g .X) (g .M) (g .Y) (post vs 1) (post vs 2) (post vs 3) (g .p) (g .q) (g .before)) (g .now))
+      let g = fits-grow G vn vs P A 3 (omega arith) h (post vs 1 ∷ post vs 2 ∷ []) (fits-start G vn vs P A (omega arith)) in
+      let between = two-long (g .X) (g .M) (g .Y) (post vs 1) (post vs 2) (post vs 3) (g .p) (g .q) (g .before) in
+      rw (earlier-next vs 3 (omega arith) h) (subst (From (earlier vs 3 ++ post vs 3 ∷ [])) between (g .now))
 
   -- the step from a stage with its contour
-  step-from : (k : ℕ) → 3 ≤ k → k < length G → Contour (After G) (post vs 1) (post vs 2) (take k vs) (stage G (take k vs) .contour) → Step G (stage G (take k vs)) (post vs (k + 1))
+  step-from : (k : ℕ) → 3 ≤ k → k < length vs → From (take k vs) (stage G (take k vs) .contour) → Step G (stage G (take k vs)) (post vs (k + 1))
   step-from k h i C =
-      let n : length vs ≡ length G = A .board .all in
       let s : k ≡ k + 1 - 1 = omega arith in
       let e = stage-placed G vs k h (omega arith) in
       step (k + 1) (omega arith) (omega arith) (stage G (take k vs)) (e ∙ ap (λ (j : ℕ). take j vs) s)
-      (subst⁻¹ (λ (l : List ℕ). Contour (After G) (post vs 1) (post vs 2) l (stage G (take k vs) .contour)) e C)
+      (subst⁻¹ (λ (l : List ℕ). From l (stage G (take k vs) .contour)) e C)
 
-  stage-now : (k : ℕ) → 3 ≤ k → k < length G → Step G (stage G (take k vs)) (post vs (k + 1)) → Contour (After G) (post vs 1) (post vs 2) (take (k + 1) vs) (stage G (take (k + 1) vs) .contour)
+  stage-now : (k : ℕ) → 3 ≤ k → k < length vs → Step G (stage G (take k vs)) (post vs (k + 1)) → From (take (k + 1) vs) (stage G (take (k + 1) vs) .contour)
   stage-now k h i s =
-      let n : length vs ≡ length G = A .board .all in
+      let t = stage G (take k vs) in
+      let t' = place G t (post vs (k + 1)) in
       let e = stage-placed G vs k h (omega arith) in
-      let C = at-ends G (post vs 1) (post vs 2) _ _ (place G (stage G (take k vs)) (post vs (k + 1)) .placed) (place G (stage G (take k vs)) (post vs (k + 1)) .contour)
+      let C = at-ends G (post vs 1) (post vs 2) _ _ (t' .placed) (t' .contour)
       (sym (ap (λ (l : List ℕ). post l 1) e ∙ getD-take k vs 0 0 (omega arith)))
       (sym (ap (λ (l : List ℕ). post l 2) e ∙ getD-take k vs 1 0 (omega arith))) (s .now) in
-      let D : Contour (After G) (post vs 1) (post vs 2) (stage G (take (k + 1) vs) .placed) (stage G (take (k + 1) vs) .contour) = rw (stage-next G vs k h (omega arith)) C in
-      subst (λ (l : List ℕ). Contour (After G) (post vs 1) (post vs 2) l (stage G (take (k + 1) vs) .contour)) (stage-placed G vs (k + 1) (omega arith) (omega arith)) D
+      let D : From (stage G (take (k + 1) vs) .placed) (stage G (take (k + 1) vs) .contour) = rw (stage-next G vs k h i) C in
+      subst (λ (l : List ℕ). From l (stage G (take (k + 1) vs) .contour)) (stage-placed G vs (k + 1) (omega arith) (omega arith)) D
 
   -- each stage from 3 on has its contour
-  pub contours : (k : ℕ) → 3 ≤ k → k ≤ length G → Contour (After G) (post vs 1) (post vs 2) (take k vs) (stage G (take k vs) .contour)
+  pub contours : (k : ℕ) → 3 ≤ k → k ≤ length vs → Contour (After G) (post vs 1) (post vs 2) (take k vs) (stage G (take k vs) .contour)
   unfolding third
   contours k h i =
-      let n : length vs ≡ length G = A .board .all in
-      from-three (λ k. Contour (After G) (post vs 1) (post vs 2) (take k vs) (stage G (take k vs) .contour)) (length G)
+      from-three (λ k. From (take k vs) (stage G (take k vs) .contour)) (length vs)
       (rw (stage-third G vs (omega arith)) (third-contour (omega arith))) (λ k h i C. stage-now k h i (step-from k h i C)) k h i
 
   -- and the next post its step
-  pub step-at : (k : ℕ) → 3 ≤ k → k < length G → Step G (stage G (take k vs)) (post vs (k + 1))
+  pub step-at : (k : ℕ) → 3 ≤ k → k < length vs → Step G (stage G (take k vs)) (post vs (k + 1))
   step-at k h i = step-from k h i (contours k h (omega arith))
 
-  pub at-each-stage : (P : Stage → Type 0) → P (third (post vs 1) (post vs 2) (post vs 3)) → ((t : Stage) (v : ℕ) → Step G t v → P t → P (place G t v))
-      → (k : ℕ) → 3 ≤ k → k ≤ length vs → P (stage G (take k vs))
-  at-each-stage P base f k h i =
-      let n : length vs ≡ length G = A .board .all in
-      from-three (λ k. P (stage G (take k vs))) (length vs) (rw (stage-third G vs (omega arith)) base)
-      (λ k h i r. subst⁻¹ P (stage-next G vs k h i) (f (stage G (take k vs)) (post vs (k + 1)) (step-at k h (omega arith)) r)) k h i
-
--- ---- wires: after the step a wire is an old one, or joins v and a post of its run
-module _ (G : List (List ℕ)) (t : Stage) (v : ℕ) (s : Step G t v) where
-  pub wire-cases : {C : Type 0} (a b : ℕ) → Wire G (place G t v .placed) a b → (Wire G (t .placed) a b → C)
-      → (a ≡ v → In b (s .p ∷ (s .M ++ s .q ∷ [])) → C) → (b ≡ v → In a (s .p ∷ (s .M ++ s .q ∷ [])) → C) → C
-  wire-cases {C} a b w f g h =
-      in-cases a (t .placed) (v ∷ [])
-      (λ ia. in-cases b (t .placed) (v ∷ []) (λ ib. f (ia, ib, w .2)) (λ eb. let e = only b eb in h e (s .run-back a (rw e at (w .2)) ia)) (old b (w .1)))
-      (λ ea. let e = only a ea in in-cases b (t .placed) (v ∷ []) (λ ib. g e (s .run-all b (rw e at (w .2)) ib)) (λ eb. absurd (s .not-self (rw (e, only b eb) at (w .2)))) (old b (w .1)))
-      (old a (w .0))
-    where
-      only : (u : ℕ) → In u (v ∷ []) → u ≡ v
-      only u (inl e) = e
-      only u (inr i) = absurd i
-
-      old : (u : ℕ) → In u (place G t v .placed) → In u (t .placed ++ v ∷ [])
-      old u i = subst (In u) (place-placed G t v) i
+  pub at-each-stage : (Q : Stage → Type 0) → Q (third (post vs 1) (post vs 2) (post vs 3)) → ((t : Stage) (v : ℕ) → Step G t v → Q t → Q (place G t v))
+      → (k : ℕ) → 3 ≤ k → k ≤ length vs → Q (stage G (take k vs))
+  at-each-stage Q base f k h i =
+      from-three (λ k. Q (stage G (take k vs))) (length vs) (rw (stage-third G vs (omega arith)) base)
+      (λ k h i r. subst⁻¹ Q (stage-next G vs k h i) (f (stage G (take k vs)) (post vs (k + 1)) (step-at k h i) r)) k h i

@@ -1,4 +1,4 @@
--- Every stage of an order that passes is drawn; and what follows for each stage and each step.
+-- Every stage of a list that fits so far is drawn; and what follows for each stage and each step.
 use Prim.Native.Nat.{ℕ, _+_, _*_, _-_, _%_, _≤_, _<_}
 use mathlib.Core.Path.{_≡_, ap, sym, _∙_}
 use mathlib.Core.Logic.{_⊎_, inl, inr, _≢_}
@@ -10,8 +10,9 @@ use Rattle.words.specs.Lists.{In}
 use Rattle.words.specs.Positions.{post}
 use Rattle.words.proofs.Lists.{Once}
 use Rattle.rings.specs.Rings.{ring}
-use Rattle.rings.specs.Plane.{Wire as RingWire}
-use Rattle.order.proofs.Sound.{Passes, boarded-names, boarded-faces}
+use Rattle.rings.specs.Plane.{Plane, Wire as RingWire}
+use Rattle.order.specs.Fitting.{FitsSoFar}
+use Rattle.order.proofs.Fitting.{fits-faces, fits-once}
 use Rattle.placing.specs.Stages.{Stage, place, stage}
 use Rattle.placing.proofs.Steps.{Step, stage-next, stage-placed, step-at, at-each-stage}
 use Rattle.drawing.specs.Meeting.{NoneMeet, OnGrid}
@@ -38,29 +39,25 @@ pub record Advance (G : List (List ℕ)) (t t' : Stage) (v : ℕ) : Type 0 where
   pub inner : (c u : ℕ) → In c (step .M) → In u (t .group c) → t' .x u ≡ t .x u + 1
   pub right : (c u : ℕ) → In c (step .q ∷ step .Y) → In u (t .group c) → t' .x u ≡ t .x u + 2
 
-module _ (G : List (List ℕ)) (vs : List ℕ) (A : Passes G vs) where
+module _ (G : List (List ℕ)) (vn : ℕ) (vs : List ℕ) (P : Plane G (post vs 1) (post vs 2) vn) (A : FitsSoFar G vn vs) where
   -- the drawing of stage k, its wires those of the rings
-  pub tied-at : (k : ℕ) → 3 ≤ k → k ≤ length G → Tied G (stage G (take k vs))
+  pub tied-at : (k : ℕ) → 3 ≤ k → k ≤ length vs → Tied G (stage G (take k vs))
   tied-at k h i =
-      let all : length vs ≡ length G = A .board .all in
-      let F = boarded-faces G vs (A .board) in
-      let d = three-differ vs (boarded-names G vs (A .board) .once) (omega arith) in
-      at-each-stage G vs A (Tied G) (tied-third G F (post vs 1) (post vs 2) (post vs 3) (d .0) (d .1) (d .2))
-      (λ t v S T. tied-next G t v S T F) k h (omega arith)
+      let F = fits-faces G vn vs P A in
+      let d = three-differ vs (fits-once G vn vs P A) (omega arith) in
+      at-each-stage G vn vs P A (Tied G) (tied-third G F (post vs 1) (post vs 2) (post vs 3) (d .0) (d .1) (d .2))
+      (λ t v S T. tied-next G t v S T F) k h i
 
-  module _ (k : ℕ) (h : 3 ≤ k) (i : k ≤ length G) where
+  module _ (k : ℕ) (h : 3 ≤ k) (i : k ≤ length vs) where
     abbrev t : Stage
     t = stage G (take k vs)
 
-    all : length vs ≡ length G
-    all = A .board .all
-
     -- v1 to vk are placed
     pub placed-at : t .placed ≡ take k vs
-    placed-at = let l = all in stage-placed G vs k h (omega arith)
+    placed-at = stage-placed G vs k h i
 
     pub count-at : length (t .placed) ≡ k
-    count-at = let l = all in ap length placed-at ∙ length-take-le k vs (omega arith)
+    count-at = ap length placed-at ∙ length-take-le k vs i
 
     pub drawn-at : Drawn t (tied-at k h i .B)
     drawn-at = tied-at k h i .drawn
@@ -121,12 +118,11 @@ module _ (G : List (List ℕ)) (vs : List ℕ) (A : Passes G vs) where
     in-one-at = in-one drawn-at
 
   -- ---- from stage k to k + 1
-  module _ (k : ℕ) (h : 3 ≤ k) (i : k < length G) where
+  module _ (k : ℕ) (h : 3 ≤ k) (i : k < length vs) where
     pub one-step-at : Advance G (stage G (take k vs)) (stage G (take (k + 1) vs)) (post vs (k + 1))
     one-step-at =
-        let l : length vs ≡ length G = A .board .all in
-        let e = stage-next G vs k h (omega arith) in
-        let S = step-at G vs A k h i in
+        let e = stage-next G vs k h i in
+        let S = step-at G vn vs P A k h i in
         let T = tied-at k h (omega arith) in
         let t = stage G (take k vs) in
         let v = post vs (k + 1) in

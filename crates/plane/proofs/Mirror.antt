@@ -1,5 +1,5 @@
 -- No triangle is turned over: each triangle of the rings whose posts are placed turns counter-clockwise, but for the outer one.
-use Prim.Native.Nat.{ℕ, _-_, _≤_, _<_}
+use Prim.Native.Nat.{ℕ, suc, _≤_, _<_}
 use mathlib.Core.Path.{_≡_, refl, sym, _∙_, subst}
 use mathlib.Core.Logic.{inl, inr, _≢_}
 use mathlib.Core.List.{List, [], _∷_, _++_}
@@ -8,13 +8,14 @@ use lib.ListN.{length, take, List·getD-append}
 use Rattle.words.specs.Lists.{In}
 use Rattle.words.specs.Positions.{post}
 use Rattle.words.proofs.Lists.{Adj, Once, adj-cases, adj-init, adj-tail, head-one, once-split, once-drop, in-right}
-use Rattle.words.proofs.Positions.{in-take, take-in, post-new}
-use Rattle.rings.specs.Plane.{Follows, OuterTriangle}
+use Rattle.words.proofs.Positions.{in-take, post-suc}
+use Rattle.rings.specs.Plane.{Plane, Follows, OuterTriangle}
 use Rattle.rings.proofs.Around.{After, follows-after}
 use Rattle.rings.proofs.Says.{Faces, next-corner}
 use Rattle.order.proofs.Contour.{Rings, Contour}
 use Rattle.order.proofs.Runs.{rings}
-use Rattle.order.proofs.Sound.{Passes, boarded-names, boarded-faces, boarded-outer}
+use Rattle.order.specs.Fitting.{FitsSoFar}
+use Rattle.order.proofs.Fitting.{fits-faces, fits-outer, fits-once}
 use Rattle.placing.specs.Stages.{Stage, third, place, stage}
 use Rattle.placing.proofs.Steps.{Step, place-placed, at-each-stage}
 use Rattle.drawing.proofs.Lists.{in-append}
@@ -157,23 +158,20 @@ module _ (G : List (List ℕ)) (F : Faces G) (v1 v2 vn : ℕ) (o : After G v2 v1
         }
 
 -- ---- every stage
-module _ (G : List (List ℕ)) (vs : List ℕ) (A : Passes G vs) (k : ℕ) (h : 3 ≤ k) (i : k ≤ length G) where
+module _ (G : List (List ℕ)) (vn : ℕ) (vs : List ℕ) (P : Plane G (post vs 1) (post vs 2) vn) (A : FitsSoFar G vn vs) (k : ℕ) (h : 3 ≤ k)
+    (i : k ≤ length vs) where
   abbrev v1 : ℕ
   v1 = post vs 1
 
   abbrev v2 : ℕ
   v2 = post vs 2
 
-  abbrev vn : ℕ
-  vn = post vs (length G)
-
   faced-at : Faced G v1 v2 vn (stage G (take k vs))
   faced-at =
-      let all : length vs ≡ length G = A .board .all in
-      let F = boarded-faces G vs (A .board) in
-      let o = boarded-outer G vs (A .board) in
-      let d = three-differ vs (boarded-names G vs (A .board) .once) (omega arith) in
-      at-each-stage G vs A (Faced G v1 v2 vn) (faced-third G F v1 v2 vn o (post vs 3) (d .0) (d .1) (d .2)) (faced-next G F v1 v2 vn o) k h (omega arith)
+      let F = fits-faces G vn vs P A in
+      let o = fits-outer G vn vs P A in
+      let d = three-differ vs (fits-once G vn vs P A) (omega arith) in
+      at-each-stage G vn vs P A (Faced G v1 v2 vn) (faced-third G F v1 v2 vn o (post vs 3) (d .0) (d .1) (d .2)) (faced-next G F v1 v2 vn o) k h i
 
   -- a triangle of the rings turns counter-clockwise, unless it is the outer one
   pub no-mirror-at : (u a b : ℕ) → Follows G u a b → In u (take k vs) → In a (take k vs) → In b (take k vs) → ¬ (OuterTriangle v1 v2 vn u a b)
@@ -184,7 +182,7 @@ module _ (G : List (List ℕ)) (vs : List ℕ) (A : Passes G vs) (k : ℕ) (h : 
       D = faced-at
 
       e : stage G (take k vs) .placed ≡ take k vs
-      e = placed-at G vs A k h i
+      e = placed-at G vn vs P A k h i
 
       go : Accounted (D .tied .B) v1 v2 vn u a b → PositiveArea (places (stage G (take k vs))) u a b
       go (over-u h) = let t = tri-turn (places (stage G (take k vs))) (D .tied .B) a b u (turns (D .tied .drawn)) h in omega (arith, t)
@@ -195,10 +193,9 @@ module _ (G : List (List ℕ)) (vs : List ℕ) (A : Passes G vs) (k : ℕ) (h : 
   -- before the last stage vn waits, and every triangle turns so
   vn-waits : k < length G → (a : ℕ) → In a (take k vs) → a ≢ vn
   vn-waits l a j e =
-      let all : length vs ≡ length G = A .board .all in
       let r = in-take k vs a j in
-      post-new vs (boarded-names G vs (A .board) .once) (length G) (omega arith) (omega arith)
-      (subst (λ (m : ℕ). In m (take (length G - 1) vs)) (r .3 ∙ e) (take-in (length G - 1) vs (r .0) (omega (arith, r .1)) (r .2)))
+      let n = A .last (suc (r .0)) (omega arith) (omega (arith, r .2)) (post-suc vs (r .0) ∙ r .3 ∙ e) in
+      omega (arith, r .1)
 
   pub no-mirror-before : k < length G → (u a b : ℕ) → Follows G u a b → In u (take k vs) → In a (take k vs) → In b (take k vs)
       → PositiveArea (places (stage G (take k vs))) u a b
