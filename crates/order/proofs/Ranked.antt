@@ -11,28 +11,37 @@ use lib.Seq.{slice, length-slice, getD-set-same, getD-set-other}
 use borrow.Author.Tests.{lt-ltb, le-ltb}
 use Rattle.words.specs.Lists.{In, mem}
 use Rattle.words.specs.Positions.{post, earlier, Earlier}
-use Rattle.words.proofs.Lists.{all-there}
+use Rattle.words.proofs.Lists.{in-dec, all-there}
 use Rattle.words.proofs.Tests.{is-true, is-false, mem-in, in-mem, in-place, different-once}
 use Rattle.words.proofs.Positions.{earlier-in, in-earlier, post-suc}
 use Rattle.block.specs.Block.{badEntry}
 use Rattle.rings.specs.Rings.{around}
 use Rattle.rings.proofs.Turns.{pair-here, pair-next, around-here, around-after, around-first}
-use Rattle.order.specs.Held.{Ranked, Names, starts}
+use Rattle.order.specs.Held.{RankedBelow, Ranked, Names, RankedEntries, starts}
 use Rattle.order.proofs.Sound.{position-says, order-below, order-once}
 use Rattle.order.proofs.Starts.{starts-last}
 
-module _ (vs rank : List ℕ) (R : Ranked vs rank) (a : ℕ) (h : a < length vs) (k : ℕ) (to : k ≤ length vs) where
-  -- a stands before position k: its position is below k
+module _ (n : ℕ) (vs rank : List ℕ) (R : RankedBelow n vs rank) (a : ℕ) (h : a < n) (k : ℕ) (to : k ≤ length vs + 1) where
+  -- the position of a, in the list or beyond it: a stands before position k exactly if that is below k
+  by-position : (Earlier vs k a → getD rank a 0 < k) × (getD rank a 0 < k → Earlier vs k a)
+  by-position = (λ e. rw (← (e .3), R .position (e .0) (e .1) (omega (arith, e .2))) (e .2), λ l. go l (in-dec a vs))
+    where
+      go : getD rank a 0 < k → Dec (In a vs) → Earlier vs k a
+      go l (no m) = absurd (omega (arith, R .beyond a h m))
+      go l (yes i) =
+          let t = in-place vs a i in
+          let p : post vs (suc (t .0)) ≡ a = post-suc vs (t .0) ∙ t .2 in
+          let e : getD rank a 0 ≡ suc (t .0) = rw p at (R .position (suc (t .0)) (omega arith) (omega (arith, t .1))) in
+          (suc (t .0), omega arith, omega arith, p)
+
   pub before-says : ltb (getD rank a 0) k ≡ mem (earlier vs k) a
   before-says = go (decLt (getD rank a 0) k)
     where
       go : Dec (getD rank a 0 < k) → ltb (getD rank a 0) k ≡ mem (earlier vs k) a
-      go (yes l) = lt-ltb (getD rank a 0) k l ∙ sym (is-true (mem (earlier vs k) a) (in-mem (earlier vs k) a (earlier-in vs k a (omega arith) (getD rank a 0, R .name a h .0, l, R .name a h .2))))
-      go (no n) =
-          le-ltb (getD rank a 0) k (omega arith) ∙ sym (is-false (mem (earlier vs k) a) (λ t. over (in-earlier vs k a (mem-in (earlier vs k) a t))))
-        where
-          over : Earlier vs k a → ⊥
-          over e = n (rw (← (e .3), R .position (e .0) (e .1) (omega (arith, e .2))) (e .2))
+      go (yes l) =
+          lt-ltb (getD rank a 0) k l ∙ sym (is-true (mem (earlier vs k) a) (in-mem (earlier vs k) a (earlier-in vs k a (omega arith) (by-position .1 l))))
+      go (no m) =
+          le-ltb (getD rank a 0) k (omega arith) ∙ sym (is-false (mem (earlier vs k) a) (λ t. m (by-position .0 (in-earlier vs k a (mem-in (earlier vs k) a t)))))
 
 -- ---- filling in the positions
 
@@ -52,15 +61,15 @@ module _ (vs rank : List ℕ) (room : length vs ≤ length rank) (good : (k : �
       go (no n) =
           rw is (getD-set-other rank (post vs k) (post vs j) k 0 (λ e. says .1 (earlier-in vs k (post vs k) (omega arith) (j, h, omega arith, e)))) ∙ r j h (omega arith)
 
+  -- the list names each post, so none is beyond it
   pub ranked : RankedTo vs rank (length vs + 1) → Ranked vs rank
-  ranked r = record { room = room; name = named; position = λ k h i. r k h (omega arith) }
-    where
-      named : (a : ℕ) → a < length vs → (1 ≤ getD rank a 0) × (getD rank a 0 ≤ length vs) × (post vs (getD rank a 0) ≡ a)
-      named a h =
-          let t = in-place vs a (all-there (length vs) vs (different-once vs (order-once (length vs) vs good)) (order-below (length vs) vs good) (omega arith) a h) in
-          let p : post vs (suc (t .0)) ≡ a = post-suc vs (t .0) ∙ t .2 in
-          let e : getD rank a 0 ≡ suc (t .0) = rw p at (r (suc (t .0)) (omega arith) (omega (arith, t .1))) in
-          (omega arith, omega (arith, t .1), rw e p)
+  ranked r =
+      let once = different-once vs (order-once (length vs) vs good) in
+      record {
+        room = room;
+        position = λ k h i. r k h (omega arith);
+        beyond = λ a h m. absurd (m (all-there (length vs) vs once (order-below (length vs) vs good) (omega arith) a h));
+      }
 
 -- ---- counting the beginnings of runs
 
@@ -83,10 +92,10 @@ module _ (ents : List ℕ) (b e i n : ℕ) (h : b ≤ i) (l : i < e) (m : e ≤ 
       go (yes k) = rw (← (around-after ents b e i h l m k)) (names (i + 1) (omega arith) k)
       go (no k) = rw (← (around-first ents b e i h l m (omega arith))) (names b (omega arith) (omega arith))
 
-module _ (vs rank ents : List ℕ) (R : Ranked vs rank) (b e i k : ℕ) (h : b ≤ i) (l : i < e) (m : e ≤ length ents) (names : Names ents b e (length vs)) (to : k ≤ length vs)
+module _ (vs rank ents : List ℕ) (b e i k : ℕ) (R : RankedEntries ents b e vs rank) (h : b ≤ i) (l : i < e) (m : e ≤ length ents) (to : k ≤ length vs)
     (r : Bool) (is : r ≡ ltb (getD rank (getD ents i 0) 0) k) where
   here : mem (earlier vs k) (getD (around (slice b e ents)) (i - b) 0) ≡ r
-  here = rw (around-here ents b e i h l m) (sym (is ∙ before-says vs rank R (getD ents i 0) (names i h l) k to))
+  here = rw (around-here ents b e i h l m) (sym (is ∙ before-says (R .n) vs rank (R .ranked) (getD ents i 0) (R .names i h l) k (omega arith)))
 
   pub start-not : r ≡ true → (y : Bool) → false ≡ (not (mem (earlier vs k) (getD (around (slice b e ents)) (i - b) 0)) && y)
   start-not t y = rw (here, t) refl
@@ -94,4 +103,4 @@ module _ (vs rank ents : List ℕ) (R : Ranked vs rank) (b e i k : ℕ) (h : b �
   pub start-if : r ≡ false → (x : ℕ) → x ≡ getD (around (slice b e ents)) (i - b + 1) 0 → (q : Bool) → q ≡ ltb (getD rank x 0) k
       → q ≡ (not (mem (earlier vs k) (getD (around (slice b e ents)) (i - b) 0)) && mem (earlier vs k) (getD (around (slice b e ents)) (i - b + 1) 0))
   start-if t x ex q eq =
-      rw (here, t, ← ex) (eq ∙ before-says vs rank R x (rw ex (after-name ents b e i (length vs) h l m names)) k to)
+      rw (here, t, ← ex) (eq ∙ before-says (R .n) vs rank (R .ranked) x (rw ex (after-name ents b e i (R .n) h l m (R .names))) k (omega arith))

@@ -1,23 +1,41 @@
 -- How running code holds an order, and what it counts in a ring.
 use Prim.Native.Nat.{ℕ, _+_, _≤_, _<_}
 use mathlib.Core.Path.{_≡_}
-use mathlib.Core.Bool.{Bool, not, cond, _&&_}
+use mathlib.Core.Bool.{Bool, true, not, cond, _&&_}
 use mathlib.Core.List.{List, [], _∷_}
 use lib.ListN.{length, getD}
-use Rattle.words.specs.Lists.{mem}
+use Rattle.words.specs.Lists.{In, mem}
 use Rattle.words.specs.Positions.{post}
+use Rattle.rings.specs.Rings.{ringRule}
+use Rattle.rings.specs.Held.{held, Cuts}
 use Rattle.order.specs.declared.Fit.{Fit}
 use Rattle.order.specs.declared.Fit.the-variants.{Good, Few, Broken}
 
--- the position of each name
-pub record Ranked (vs rank : List ℕ) : Type 0 where
-  pub room : length vs ≤ length rank
-  pub name : (a : ℕ) → a < length vs → (1 ≤ getD rank a 0) × (getD rank a 0 ≤ length vs) × (post vs (getD rank a 0) ≡ a)
+-- the position of each name below n: a post of the list has its own there, any other name has one beyond the list
+pub record RankedBelow (n : ℕ) (vs rank : List ℕ) : Type 0 where
+  pub room : n ≤ length rank
   pub position : (k : ℕ) → 1 ≤ k → k ≤ length vs → getD rank (post vs k) 0 ≡ k
+  pub beyond : (a : ℕ) → a < n → ¬ (In a vs) → length vs < getD rank a 0
+
+-- where the list names each post
+abbrev pub Ranked : List ℕ → List ℕ → Type 0
+Ranked vs rank = RankedBelow (length vs) vs rank
 
 -- the entries from b to e are names below n
 abbrev pub Names : List ℕ → ℕ → ℕ → ℕ → Type 0
 Names ents b e n = (i : ℕ) → b ≤ i → i < e → getD ents i 0 < n
+
+-- names whose positions are known
+pub record RankedEntries (ents : List ℕ) (b e : ℕ) (vs rank : List ℕ) : Type 0 where
+  pub n : ℕ
+  pub names : Names ents b e n
+  pub ranked : RankedBelow n vs rank
+
+-- rings that keep the ring rule, and a list of posts with the positions by name
+pub record Listed (at ents vs rank : List ℕ) : Type 0 where
+  pub cuts : Cuts at ents
+  pub rings : (u : ℕ) → u < length (held at ents) → ringRule (held at ents) u ≡ true
+  pub ranked : RankedBelow (length (held at ents)) vs rank
 
 -- how often a placed entry stands right after one that is not placed
 unfoldable pub starts : List ℕ → List ℕ → ℕ

@@ -30,7 +30,8 @@ shared-slice-read-is-before c = search needs
 is-before-requires : tie.Need-is-before-requires Inv-loop μ-loop
 is-before-requires c κs =
     let entry = c .before .before .before .before .before .before in
-    omega (arith, entry .pre .3 (c .before .before .loop .i) (omega arith) (omega arith), entry .pre .2 .room)
+    let R = entry .pre .2 in
+    omega (arith, R .names (c .before .before .loop .i) (omega arith) (omega arith), R .ranked .room)
 
 one-if-requires : tie.Need-one-if-requires Inv-loop μ-loop
 one-if-requires c κs = search needs
@@ -46,11 +47,16 @@ loop-less c = search needs
 
 loop-again : tie.Need-loop-again Inv-loop μ-loop
 loop-again c =
-    let entry = c .before .before .before .before .before .before .before .before in
-    let v = c .before .before .before .before .loop in
+    let turn = c .before .before .before .before in
+    let entry = turn .before .before .before .before in
+    let v = turn .loop in
     let a = entry .args in
-    let s : c .before .is-before .result ≡ mem (earlier (a .vs .now) (a .k)) (getD (a .ents .now) (v .i) 0) = c .before .is-before .ensures ∙ before-says (a .vs .now) (a .rank .now) (entry .pre .2) (getD (a .ents .now) (v .i) 0) (entry .pre .3 (v .i) (omega arith) (omega arith)) (a .k) (entry .pre .4) in
-    omega (arith, count-step (a .ents .now) (v .i) (a .e) (omega arith) (omega arith) (mem (earlier (a .vs .now) (a .k))), c .one-if .ensures, ap {B = ℕ} (λ (z : Bool). cond z 1 0) s)
+    let R = entry .pre .2 in
+    let here = getD (a .ents .now) (v .i) 0 in
+    let placed = mem (earlier (a .vs .now) (a .k)) in
+    let says = before-says (R .n) (a .vs .now) (a .rank .now) (R .ranked) here (R .names (v .i) (omega arith) (omega arith)) (a .k) (omega arith) in
+    let s : c .before .is-before .result ≡ placed here = c .before .is-before .ensures ∙ says in
+    omega (arith, count-step (a .ents .now) (v .i) (a .e) (omega arith) (omega arith) placed, c .one-if .ensures, ap {B = ℕ} (λ (z : Bool). cond z 1 0) s)
 
 returns : tie.Need-returns Inv-loop μ-loop
 returns c =

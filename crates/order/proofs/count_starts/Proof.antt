@@ -27,7 +27,7 @@ loop-holds c =
 is-start-requires : tie.Need-is-start-requires Inv-loop μ-loop
 is-start-requires c κs =
     let entry = c .before .before .before .before .before in
-    (search needs, search needs, search needs, entry .pre .2, entry .pre .3, entry .pre .4)
+    (search needs, search needs, search needs, entry .pre .2, entry .pre .3)
 
 one-if-requires : tie.Need-one-if-requires Inv-loop μ-loop
 one-if-requires c κs = search needs

@@ -13,12 +13,15 @@ shared-slice-read-is-before c = search needs
 is-before-requires : tie.Need-is-before-requires
 is-before-requires c κs =
     let entry = c .before .before .before .before in
-    omega (arith, entry .pre .4 (entry .args .i) (omega arith) (omega arith), entry .pre .3 .room)
+    let R = entry .pre .3 in
+    omega (arith, R .names (entry .args .i) (omega arith) (omega arith), R .ranked .room)
 
 returns : tie.Need-returns
 returns c =
     let entry = c .before .before .before .before .before .before in
-    start-not (entry .args .vs .now) (entry .args .rank .now) (entry .args .ents .now) (entry .pre .3) (entry .args .b) (entry .args .e) (entry .args .i) (entry .args .k) (entry .pre .0) (entry .pre .1) (entry .pre .2) (entry .pre .4) (entry .pre .5) (c .before .is-before .result) (c .before .is-before .ensures) (c .if1 .taken) _
+    let a = entry .args in
+    start-not (a .vs .now) (a .rank .now) (a .ents .now) (a .b) (a .e) (a .i) (a .k) (entry .pre .3) (entry .pre .0) (entry .pre .1) (entry .pre .2)
+    (entry .pre .4) (c .before .is-before .result) (c .before .is-before .ensures) (c .if1 .taken) _
 
 after-requires : tie.Need-after-requires
 after-requires c κs = search needs
@@ -26,13 +29,20 @@ after-requires c κs = search needs
 is-before-requires-2 : tie.Need-is-before-requires-2
 is-before-requires-2 c κs =
     let entry = c .before .before .before .before .before .before .before in
-    omega (arith, c .after .ensures, after-name (entry .args .ents .now) (entry .args .b) (entry .args .e) (entry .args .i) _ (entry .pre .0) (entry .pre .1) (entry .pre .2) (entry .pre .4), entry .pre .3 .room)
+    let a = entry .args in
+    let R = entry .pre .3 in
+    let named = after-name (a .ents .now) (a .b) (a .e) (a .i) (R .n) (entry .pre .0) (entry .pre .1) (entry .pre .2) (R .names) in
+    omega (arith, c .after .ensures, named, R .ranked .room)
 
 returns-2 : tie.Need-returns-2
 returns-2 c =
-    let entry = c .before .before .before .before .before .before .before .before in
-    let is-before = c .before .before .before .is-before in
-    start-if (entry .args .vs .now) (entry .args .rank .now) (entry .args .ents .now) (entry .pre .3) (entry .args .b) (entry .args .e) (entry .args .i) (entry .args .k) (entry .pre .0) (entry .pre .1) (entry .pre .2) (entry .pre .4) (entry .pre .5) (is-before .result) (is-before .ensures) (c .before .before .if1 .left) (c .before .after .result) (c .before .after .ensures) (c .is-before2 .result) (c .is-before2 .ensures)
+    let compared = c .before .before .before in
+    let entry = compared .before .before .before .before .before in
+    let a = entry .args in
+    let is-before = compared .is-before in
+    start-if (a .vs .now) (a .rank .now) (a .ents .now) (a .b) (a .e) (a .i) (a .k) (entry .pre .3) (entry .pre .0) (entry .pre .1) (entry .pre .2)
+    (entry .pre .4) (is-before .result) (is-before .ensures) (c .before .before .if1 .left) (c .before .after .result) (c .before .after .ensures)
+    (c .is-before2 .result) (c .is-before2 .ensures)
 
 pub is-start-spec : {M : Type 1} → statement M
 is-start-spec =

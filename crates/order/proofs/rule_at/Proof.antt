@@ -2,10 +2,8 @@ use borrow.Author.Needs.{needs}
 use Rattle.order.proofs.rule_at.Statement.{statement}
 use Rattle.order.proofs.rule_at.Tie as tie
 use native.Mathlib.Omega.{arith}
-use Prim.Native.Nat.{_≤_, _+_, _-_, _<_}
-use lib.ListN.{length}
-use Rattle.words.specs.Positions.{earlier}
-use Rattle.order.proofs.Rule.{ring-names, rule-few, rule-broken, rule-good}
+use Rattle.rings.proofs.Held.{held-length}
+use Rattle.order.proofs.Rule.{ready, rule-few, rule-broken, rule-good}
 
 sub-number : tie.Need-sub-number
 sub-number c = search needs
@@ -23,7 +21,10 @@ mul-number-2 : tie.Need-mul-number-2
 mul-number-2 c = search needs
 
 shared-slice-read-number-2 : tie.Need-shared-slice-read-number-2
-shared-slice-read-number-2 c = search needs
+shared-slice-read-number-2 c =
+    let a = c .before .before .before .before .before .before .before .args in
+    let n = held-length (a .at .now) (a .ents .now) in
+    search needs
 
 number-requires-2 : tie.Need-number-requires-2
 number-requires-2 c κs = search needs
@@ -35,95 +36,58 @@ mul-number-3 : tie.Need-mul-number-3
 mul-number-3 c = search needs
 
 shared-slice-read-number-3 : tie.Need-shared-slice-read-number-3
-shared-slice-read-number-3 c = search needs
+shared-slice-read-number-3 c =
+    let v = c .before .before .before in
+    let a = v .before .before .before .before .before .before .args in
+    let n = held-length (a .at .now) (a .ents .now) in
+    search needs
 
 number-requires-3 : tie.Need-number-requires-3
 number-requires-3 c κs = search needs
 
 count-before-requires : tie.Need-count-before-requires
 count-before-requires c κs =
-    let entry = c .before .before .before .before .before .before .before .before .before .before in
-    let number = c .before .before .before .before .number in
+    let v = c .before .before .before .before in
     let b = c .before .before .number2 in
     let e = c .number3 in
-    let vs = entry .args .vs .now in
-    let at = entry .args .at .now in
-    let ents = entry .args .ents .now in
-    let C = entry .pre .0 in
-    let v = number .result in
-    let low : v < length vs = omega (arith, number .ensures .0, entry .pre .6) in
-    let le : b .result ≤ e .result = omega (arith, C .rise v (omega arith), b .ensures, e .ensures) in
-    let within : e .result ≤ length ents = omega (arith, C .within (v + 1) (omega arith), e .ensures) in
-    let names =
-    ring-names at ents v (b .result) (e .result) (length vs) low (entry .pre .1) (b .ensures .0) (e .ensures .0) le within (entry .pre .3 v low) in
-    (le, within, entry .pre .2, names, entry .pre .5)
+    let pre = v .before .before .before .before .before .before .pre in
+    ready _ _ _ _ (pre .0) _ _ _ _ (pre .2) (pre .3) (v .number .ensures .0) (b .ensures .0) (e .ensures .0)
 
 returns : tie.Need-returns
 returns c =
-    let entry = c .before .before .before .before .before .before .before .before .before .before .before .before in
-    let number = c .before .before .before .before .before .before .number in
-    let b = c .before .before .before .before .number2 in
-    let e = c .before .before .number3 in
     let counted = c .before .count-before in
-    let vs = entry .args .vs .now in
-    let at = entry .args .at .now in
-    let ents = entry .args .ents .now in
-    let low : number .result < length vs = omega (arith, number .ensures .0, entry .pre .6) in
-    rw (← (number .ensures .0))
-    (rule-few at ents (number .result) (b .result) (e .result) (length vs) low (entry .pre .1) (b .ensures .0) (e .ensures .0)
-    (earlier vs (entry .args .k)) (counted .result) (counted .ensures) (c .if1 .taken))
+    let read = c .before .before in
+    let v = read .before .before .before .before in
+    let pre = v .before .before .before .before .before .before .pre in
+    rule-few _ _ _ _ (pre .0) _ _ _ _ (pre .2) (pre .3) (v .number .ensures .0) (read .before .before .number2 .ensures .0) (read .number3 .ensures .0)
+    (counted .result) (counted .ensures) (c .if1 .taken)
 
 count-starts-requires : tie.Need-count-starts-requires
 count-starts-requires c κs =
-    let entry = c .before .before .before .before .before .before .before .before .before .before .before .before in
-    let number = c .before .before .before .before .before .before .number in
-    let b = c .before .before .before .before .number2 in
-    let e = c .before .before .number3 in
-    let vs = entry .args .vs .now in
-    let at = entry .args .at .now in
-    let ents = entry .args .ents .now in
-    let C = entry .pre .0 in
-    let v = number .result in
-    let low : v < length vs = omega (arith, number .ensures .0, entry .pre .6) in
-    let le : b .result ≤ e .result = omega (arith, C .rise v (omega arith), b .ensures, e .ensures) in
-    let within : e .result ≤ length ents = omega (arith, C .within (v + 1) (omega arith), e .ensures) in
-    let names =
-    ring-names at ents v (b .result) (e .result) (length vs) low (entry .pre .1) (b .ensures .0) (e .ensures .0) le within (entry .pre .3 v low) in
-    (le, within, entry .pre .2, names, entry .pre .5)
+    let read = c .before .before in
+    let v = read .before .before .before .before in
+    let pre = v .before .before .before .before .before .before .pre in
+    ready _ _ _ _ (pre .0) _ _ _ _ (pre .2) (pre .3) (v .number .ensures .0) (read .before .before .number2 .ensures .0) (read .number3 .ensures .0)
 
 returns-2 : tie.Need-returns-2
 returns-2 c =
-    let entry = c .before .before .before .before .before .before .before .before .before .before .before .before .before .before in
-    let number = c .before .before .before .before .before .before .before .before .number in
-    let b = c .before .before .before .before .before .before .number2 in
-    let e = c .before .before .before .before .number3 in
-    let counted = c .before .before .before .count-before in
     let begun = c .before .count-starts in
-    let vs = entry .args .vs .now in
-    let at = entry .args .at .now in
-    let ents = entry .args .ents .now in
-    let low : number .result < length vs = omega (arith, number .ensures .0, entry .pre .6) in
-    rw (← (number .ensures .0))
-    (rule-broken at ents (number .result) (b .result) (e .result) (length vs) low (entry .pre .1) (b .ensures .0) (e .ensures .0)
-    (earlier vs (entry .args .k)) (counted .result) (counted .ensures) (c .before .before .if1 .left) (begun .result) (begun .ensures)
-    (omega (arith, c .if2 .taken)))
+    let counted = c .before .before .before .count-before in
+    let read = c .before .before .before .before in
+    let v = read .before .before .before .before in
+    let pre = v .before .before .before .before .before .before .pre in
+    rule-broken _ _ _ _ (pre .0) _ _ _ _ (pre .2) (pre .3) (v .number .ensures .0) (read .before .before .number2 .ensures .0) (read .number3 .ensures .0)
+    (counted .result) (counted .ensures) (c .before .before .if1 .left) (begun .result) (begun .ensures) (omega (arith, c .if2 .taken))
 
 returns-3 : tie.Need-returns-3
 returns-3 c =
-    let entry = c .before .before .before .before .before .before .before .before .before .before .before .before .before .before in
-    let number = c .before .before .before .before .before .before .before .before .number in
-    let b = c .before .before .before .before .before .before .number2 in
-    let e = c .before .before .before .before .number3 in
-    let counted = c .before .before .before .count-before in
     let begun = c .before .count-starts in
-    let vs = entry .args .vs .now in
-    let at = entry .args .at .now in
-    let ents = entry .args .ents .now in
-    let low : number .result < length vs = omega (arith, number .ensures .0, entry .pre .6) in
-    rw (← (number .ensures .0))
-    (rule-good at ents (number .result) (b .result) (e .result) (length vs) low (entry .pre .1) (b .ensures .0) (e .ensures .0)
-    (earlier vs (entry .args .k)) (counted .result) (counted .ensures) (c .before .before .if1 .left) (begun .result) (begun .ensures)
-    (omega (arith, c .if2 .left)))
+    let counted = c .before .before .before .count-before in
+    let read = c .before .before .before .before in
+    let v = read .before .before .before .before in
+    let pre = v .before .before .before .before .before .before .pre in
+    rule-good _ _ _ _ (pre .0) _ _ _ _ (pre .2) (pre .3) (v .number .ensures .0) (read .before .before .number2 .ensures .0) (read .number3 .ensures .0)
+    (counted .result) (counted .ensures) (c .before .before .if1 .left) (begun .result) (begun .ensures) (omega (arith, c .if2 .left))
 
 pub rule-at-spec : {M : Type 1} → statement M
 rule-at-spec =
