@@ -1,4 +1,3 @@
 pub mod Arrays
-pub mod Opens
 pub mod Columns
 pub mod Sheet

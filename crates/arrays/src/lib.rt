@@ -4,9 +4,6 @@ ghost use mathlib.Core.List.{_++_};
 ghost use Prim.Native.Nat.{ℕ, _+_, _*_, _-_, _/_, _≤_, _<_};
 ghost use lib.ListN.{length, getD, set, take, drop};
 ghost use Rattle.block.specs.Layout.{limit};
-ghost use lib.Seq.{slice};
-ghost use mathlib.Core.Bool.{not, _&&_};
-ghost use Rattle.arrays.specs.Opens.{before, opens};
 ghost use Rattle.arrays.specs.Columns.{until, laid, columnOf, settled, ColumnFits, Settles, Rooms, Line};
 ghost use Rattle.arrays.specs.Sheet.{pairs};
 ghost use Rattle.arrays.specs.Arrays.{bias, path, walk, along, Below, covered, hung, Fits, dropOf, riseOf, Ready, Over};
@@ -108,33 +105,6 @@ pub fn place_over(
     two(off, v, d, q, far - d);
     two(left, v, p, q, v);
     two(right, p, v, v, q);
-}
-
-fn begins(last: bool, here: bool) -> bool
-    ensures { λ r. ⌜ r ≡ (not last && here) ⌝ }
-{
-    if last {
-        return false;
-    }
-    here
-}
-
-// Where a run begins among the entries from b to e, read around: the first one before position k after one that is not; v1 if there is none.
-pub fn run_begins(ents: &[u16], b: usize, e: usize, rank: &[u16], k: usize, v1: u16) -> u16
-    requires { ⌜ (b < e) × (e ≤ length (now ents)) × ((j : ℕ) → b ≤ j → j < e → getD (now ents) j 0 < length (now rank)) ⌝ }
-    ensures { λ r. ⌜ r ≡ opens (before (now (rank .entry)) k) v1 (before (now (rank .entry)) k (getD (now (ents .entry)) (e - 1) 0)) (slice b e (now (ents .entry))) ⌝ }
-{
-    let mut last = order::is_before(rank, ents[e - 1], k);
-    let mut i = b;
-    while i < e {
-        let here = order::is_before(rank, ents[i], k);
-        if begins(last, here) {
-            return ents[i];
-        }
-        last = here;
-        i += 1;
-    }
-    v1
 }
 
 // Three stores, the third last.

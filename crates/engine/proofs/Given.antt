@@ -12,19 +12,19 @@ use borrow.Author.Tests.{eq-eqb, ne-eqb}
 use Rattle.words.specs.Lists.{In, mem, lastOf}
 use Rattle.words.specs.Positions.{post}
 use Rattle.words.proofs.Lists.{Head, Adj, Once, in-dec, adj-in-left, adj-tail, last-in}
-use Rattle.words.proofs.Tests.{is-true, is-false, in-mem, mem-in, place-in, once-different}
+use Rattle.words.proofs.Tests.{is-true, is-false, in-mem, mem-in, place-in}
 use Rattle.words.proofs.Positions.{in-take}
 use Rattle.block.specs.Layout.{limit}
 use Rattle.rings.specs.Held.{held}
 use Rattle.rings.proofs.Around.{After}
 use Rattle.order.proofs.Contour.{Contour}
-use Rattle.order.proofs.Sound.{boarded-names}
+use Rattle.order.proofs.Fitting.{fits-few}
 use Rattle.placing.specs.Stages.{stage}
 use Rattle.placing.specs.Records.{leftOf, rightOf, standing, recordOf, entriesOf}
 use Rattle.placing.specs.declared.Standing.the-variants.{Waiting, OnContour, Covered}
 use Rattle.placing.proofs.Steps.{contours, stage-placed}
 use Rattle.arrays.specs.Opens.{before}
-use Rattle.engine.specs.Found.{Accepted}
+use Rattle.engine.specs.Fitted.{Fitted}
 use Rattle.engine.specs.Shows.{Shows, Drawn}
 use Rattle.arrays.specs.Sheet.{pairs}
 use Rattle.engine.specs.Recorded.{recordBy}
@@ -85,7 +85,11 @@ unfolding pairs flatMap
 pairs-same xs ys f g [] h = refl
 pairs-same xs ys f g (u ∷ l) h = let e = h u (inl refl) in rw (e .0, e .1, pairs-same xs ys f g l (λ w i. h w (inr i))) refl
 
-module _ (at ents vs rank : List ℕ) (A : Accepted at ents vs rank) (k : ℕ) (h : 3 ≤ k) (i : k ≤ length vs)
+-- no stage is beyond the limit
+pub stage-within : (at ents vs rank : List ℕ) → Fitted at ents vs rank → (k : ℕ) → k ≤ length vs → k ≤ limit
+stage-within at ents vs rank A k i = omega (arith, fits-few (held at ents) (A .vn) vs (A .plane) (A .fits), A .most)
+
+module _ (at ents vs rank : List ℕ) (A : Fitted at ents vs rank) (k : ℕ) (h : 3 ≤ k) (i : k ≤ length vs)
     (ys off cover left right xs : List ℕ) (D : Drawn at ents vs k ys off cover left right xs) where
   abbrev G : List (List ℕ)
   G = held at ents
@@ -103,7 +107,7 @@ module _ (at ents vs rank : List ℕ) (A : Accepted at ents vs rank) (k : ℕ) (
       ∙ pairs-same xs ys (stage (held at ents) (take k vs) .x) (stage (held at ents) (take k vs) .y) (stage (held at ents) (take k vs) .placed) (λ u q. (D .column u q, S .height u q))
 
   C : Contour (After (held at ents)) (post vs 1) (post vs 2) (take k vs) (stage (held at ents) (take k vs) .contour)
-  C = contours G vs (A .passes) k h (omega (arith, A .passes .board .all))
+  C = contours G (A .vn) vs (A .plane) (A .fits) k h i
 
   v1-is : post (stage (held at ents) (take k vs) .placed) 1 ≡ post vs 1
   v1-is = ap (λ (l : List ℕ). post l 1) placed-is ∙ getD-take k vs 0 0 (omega arith)
@@ -143,7 +147,7 @@ module _ (at ents vs rank : List ℕ) (A : Accepted at ents vs rank) (k : ℕ) (
       let w = in-take k vs u (subst (In u) placed-is q) in
       let l = later at ents vs rank A k h i ys off cover left right (D .holds) xs (D .roomy) (w .0) (w .1) (λ c. n (subst (λ (a : ℕ). In a (stage (held at ents) (take k vs) .contour)) (w .3) c)) in
       let f : getD vs (l .0) 0 ≡ getD vs (w .0) 0 = l .3 ∙ ap (stage (held at ents) (take k vs) .cover) (w .3) ∙ sym (S .covers u q n) ∙ e ∙ sym (w .3) in
-      let d = once-different vs (boarded-names G vs (A .passes .board) .once) (l .0) (w .0) (omega (arith, l .2)) (w .2) f in
+      let d = A .fits .once (l .0) (w .0) (omega (arith, l .2)) (w .2) f in
       omega (arith, l .1)
 
   stands : (u : ℕ) → In u (stage (held at ents) (take k vs) .placed)
@@ -164,12 +168,12 @@ module _ (at ents vs rank : List ℕ) (A : Accepted at ents vs rank) (k : ℕ) (
             S .covers u q n,
           ) refl
 
-  pub record-is : (u : ℕ) → u < length vs → recordBy rank k xs ys cover left right u ≡ recordOf (stage (held at ents) (take k vs)) u
+  pub record-is : (u : ℕ) → u < length (held at ents) → recordBy rank k xs ys cover left right u ≡ recordOf (stage (held at ents) (take k vs)) u
   unfolding recordOf
   record-is u l = go (in-dec u (stage (held at ents) (take k vs) .placed))
     where
       t : mem (stage (held at ents) (take k vs) .placed) u ≡ before rank (k + 1) u
-      t = ap (λ (r : List ℕ). mem r u) placed-is ∙ placed-by vs rank k (boarded-names G vs (A .passes .board) .once) (A .ranked) u l
+      t = ap (λ (r : List ℕ). mem r u) placed-is ∙ placed-by (length (held at ents)) vs rank (A .ranked) k i u l
 
       go : Dec (In u (stage (held at ents) (take k vs) .placed)) → recordBy rank k xs ys cover left right u
           ≡ cond (mem (stage (held at ents) (take k vs) .placed) u)
@@ -182,16 +186,16 @@ module _ (at ents vs rank : List ℕ) (A : Accepted at ents vs rank) (k : ℕ) (
   -- the posts placed have room
   pub names-fit : (j : ℕ) → j < k → (getD vs j 0 < length xs) × (getD vs j 0 < length ys)
   names-fit j l =
-      let b = boarded-names G vs (A .passes .board) .below (getD vs j 0) (place-in vs j (omega arith)) in
-      (omega (arith, A .passes .board .all, D .roomy), omega (arith, A .passes .board .all, D .holds .room .of-ys))
+      let b = A .fits .below (getD vs j 0) (place-in vs j (omega arith)) in
+      (omega (arith, D .roomy), omega (arith, D .holds .room .of-ys))
 
   pub sheet-is : (B B' : List ℕ) → B' ≡ pairs xs ys (take k vs) ++ drop (2 * k) B → B' ≡ entriesOf (stage (held at ents) (take k vs)) ++ drop (2 * k) B
   sheet-is B B' e = e ∙ ap (λ (l : List ℕ). l ++ drop (2 * k) B) entries-are
 
-  pub record-ready : (u : ℕ) → u < length vs → (k ≤ limit) × (u < length rank) × (u < length xs) × (u < length ys) × (u < length cover) × (u < length left) × (u < length right)
+  pub record-ready : (u : ℕ) → u < length (held at ents) → (k ≤ limit) × (u < length rank) × (u < length xs) × (u < length ys) × (u < length cover) × (u < length left) × (u < length right)
   record-ready u l =
       let W = D .holds .room in (
-        omega (arith, A .most),
+        stage-within at ents vs rank A k i,
         omega (arith, A .ranked .room),
         omega (arith, D .roomy),
         omega (arith, W .of-ys),

@@ -10,10 +10,12 @@ use lib.Seq.{getD-at}
 use Rattle.words.specs.Lists.{In}
 use Rattle.words.specs.Positions.{post}
 use Rattle.words.proofs.Lists.{Head, in-head, head-same, in-dec, in-left, in-right, in-cases, swap-in}
-use Rattle.words.proofs.Tests.{eqb-same, eqb-other, place-in, once-different}
-use Rattle.order.proofs.Sound.{Passes, boarded-names}
+use Rattle.words.proofs.Tests.{eqb-same, eqb-other, place-in}
+use Rattle.rings.specs.Plane.{Plane}
+use Rattle.order.specs.Fitting.{FitsSoFar}
+use Rattle.order.proofs.Fitting.{fits-once}
 use Rattle.placing.specs.Stages.{Stage, third, placeOver, place, stage}
-use Rattle.placing.proofs.Steps.{Step, step-at, place-placed, at-each-stage}
+use Rattle.placing.proofs.Steps.{Step, place-placed, at-each-stage}
 use Rattle.placing.proofs.Placed.{place-group, place-cover, place-x-old}
 use Rattle.drawing.proofs.Build.{Build, post as build-post, on-contour}
 use Rattle.plane.proofs.Lists.{in-mem, not-mem, in-groups, groups-in, sides}
@@ -21,6 +23,7 @@ use Rattle.plane.proofs.Drawn.{Drawn}
 use Rattle.plane.proofs.Over.{before, inside, after, ends, by-0, by-1, by-2}
 use Rattle.plane.proofs.Next.{OneStep, step, stepped}
 use Rattle.plane.proofs.Start.{three, start}
+use Rattle.plane.proofs.Every.{three-differ}
 use Rattle.plane.proofs.Sheet.{in-some, in-one, group-placed, within, Recast, recast}
 
 pub record Kept (t : Stage) : Type 0 where
@@ -249,19 +252,9 @@ kept-third v1 v2 v3 d12 d13 d23 =
     on u (inr (inr (inl e))) = inr (inl e)
     on u (inr (inr (inr z))) = absurd z
 
-module _ (G : List (List ℕ)) (vs : List ℕ) (A : Passes G vs) where
-  pub apart : (i j : ℕ) → i < length vs → j < length vs → ¬ (i ≡ j) → getD vs i 0 ≢ getD vs j 0
-  apart i j h k n e = n (once-different vs (boarded-names G vs (A .board) .once) i j h k e)
-
-  pub kept-at : (k : ℕ) → 3 ≤ k → k ≤ length vs → Kept (stage G (take k vs))
-  kept-at k h i =
-      at-each-stage G vs A Kept
-      (kept-third (post vs 1) (post vs 2) (post vs 3) (apart 0 1 (omega arith) (omega arith) (λ e. omega arith)) (apart 0 2 (omega arith) (omega arith) (λ e. omega arith))
-      (apart 1 2 (omega arith) (omega arith) (λ e. omega arith)))
-      (λ t v s K. kept G t v s K) k h i
-
-  -- the step from stage k
-  pub moves-at : (k : ℕ) (h : 3 ≤ k) (i : k < length G) → Moves G (stage G (take k vs)) (post vs (k + 1)) (step-at G vs A k h i)
-  moves-at k h i =
-      let n : length vs ≡ length G = A .board .all in
-      moves G (stage G (take k vs)) (post vs (k + 1)) (step-at G vs A k h i) (kept-at k h (omega arith))
+-- every stage of a list that fits so far
+pub kept-at : (G : List (List ℕ)) (vn : ℕ) (vs : List ℕ) → Plane G (post vs 1) (post vs 2) vn → FitsSoFar G vn vs
+    → (k : ℕ) → 3 ≤ k → k ≤ length vs → Kept (stage G (take k vs))
+kept-at G vn vs P A k h i =
+    let d = three-differ vs (fits-once G vn vs P A) (omega arith) in
+    at-each-stage G vn vs P A Kept (kept-third (post vs 1) (post vs 2) (post vs 3) (d .0) (d .1) (d .2)) (λ t v s K. kept G t v s K) k h i

@@ -1,6 +1,5 @@
 pub mod Kept
 pub mod Stepped
-pub mod Found
 pub mod Along
 pub mod Shown
 pub mod Next

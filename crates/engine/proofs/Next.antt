@@ -1,4 +1,4 @@
--- The step from stage k of an accepted block, from what the code reads and what its parts ensure.
+-- The step from stage k, from what the code reads and what its parts ensure.
 use Prim.Native.Nat.{ℕ, suc, _+_, _-_, _≤_, _<_}
 use mathlib.Core.Path.{_≡_, refl, ap, sym, _∙_, subst, subst⁻¹}
 use mathlib.Core.Logic.{inl}
@@ -11,18 +11,20 @@ use Rattle.words.specs.Lists.{In, mem, count, lastOf}
 use Rattle.words.specs.Positions.{post, earlier}
 use Rattle.words.proofs.Tests.{place-in}
 use Rattle.words.proofs.Positions.{in-take}
+use Rattle.block.specs.Layout.{limit}
 use Rattle.rings.specs.Rings.{ring}
 use Rattle.rings.specs.Held.{held}
-use Rattle.rings.proofs.Held.{held-part}
+use Rattle.rings.proofs.Held.{held-length, held-part}
 use Rattle.rings.proofs.Turns.{part-at}
 use Rattle.rings.proofs.Says.{entry-below}
-use Rattle.order.proofs.Sound.{boarded-names, boarded-faces}
+use Rattle.order.proofs.Fitting.{fits-faces, fits-few}
+use Rattle.order.specs.Held.{RankedEntries}
 use Rattle.placing.specs.Stages.{Stage, stage}
 use Rattle.placing.proofs.Steps.{Step, step-at, stage-next, stage-placed}
 use Rattle.arrays.specs.Arrays.{Ready, Over}
 use Rattle.arrays.specs.Opens.{opens}
 use Rattle.arrays.specs.Opens.{before as earlier-than}
-use Rattle.engine.specs.Found.{Accepted}
+use Rattle.engine.specs.Fitted.{Fitted}
 use Rattle.engine.specs.Shows.{Shows, Holds}
 use Rattle.engine.proofs.Kept.{Kept, kept-at}
 use Rattle.engine.proofs.Found.{opens-same, placed-by, run-found}
@@ -33,27 +35,24 @@ last-at x [] h = absurd (omega arith)
 last-at x (y ∷ []) h = refl
 last-at x (y ∷ z ∷ l) h = let e : length (y ∷ z ∷ l) - 1 ≡ suc (length (z ∷ l) - 1) = omega arith in rw e (last-at y (z ∷ l) (omega arith))
 
-module _ (at ents vs rank : List ℕ) (A : Accepted at ents vs rank) (k : ℕ) (h : 3 ≤ k) (i : k < length vs) where
+module _ (at ents vs rank : List ℕ) (A : Fitted at ents vs rank) (k : ℕ) (h : 3 ≤ k) (i : k < length vs) where
   abbrev G : List (List ℕ)
   G = held at ents
 
-  many : length (held at ents) ≡ length vs
-  many = sym (A .passes .board .all)
-
-  i' : k < length (held at ents)
-  i' = omega (arith, many)
+  abbrev n : ℕ
+  n = length (held at ents)
 
   abbrev t : Stage
   t = stage (held at ents) (take k vs)
 
   abbrev s : Step (held at ents) (stage (held at ents) (take k vs)) (post vs (k + 1))
-  s = step-at (held at ents) vs (A .passes) k h i'
+  s = step-at (held at ents) (A .vn) vs (A .plane) (A .fits) k h i
 
   new-is : getD vs k 0 ≡ post vs (k + 1)
   new-is = let e : k + 1 - 1 ≡ k = omega arith in rw e refl
 
-  pub new-below : getD vs k 0 < length vs
-  new-below = omega (arith, many, boarded-names G vs (A .passes .board) .below (getD vs k 0) (place-in vs k i))
+  pub new-below : getD vs k 0 < length (held at ents)
+  new-below = A .fits .below (getD vs k 0) (place-in vs k i)
 
   placed-is : stage (held at ents) (take k vs) .placed ≡ take k vs
   placed-is = stage-placed G vs k h (omega arith)
@@ -61,7 +60,7 @@ module _ (at ents vs rank : List ℕ) (A : Accepted at ents vs rank) (k : ℕ) (
   -- the ring, from b to e
   module _ (v j b e : ℕ) (ev : v ≡ getD vs k 0) (ej : j ≡ v) (eb : b ≡ getD at j 0) (ee : e ≡ getD at (j + 1) 0) where
     pub j-below : j + 1 < length at
-    j-below = omega (arith, new-below, A .passes .board .all)
+    j-below = omega (arith, new-below, held-length at ents)
 
     v-is : v ≡ post vs (k + 1)
     v-is = ev ∙ new-is
@@ -82,20 +81,20 @@ module _ (at ents vs rank : List ℕ) (A : Accepted at ents vs rank) (k : ℕ) (
         go [] q z = absurd z
         go (x ∷ l) q z = omega arith
 
-    in-ring : (a : ℕ) → In a (slice b e ents) → a < length vs
-    in-ring a q = omega (arith, many, entry-below G (boarded-faces G vs (A .passes .board)) (post vs (k + 1)) a (subst⁻¹ (In a) ring-is q))
+    in-ring : (a : ℕ) → In a (slice b e ents) → a < length (held at ents)
+    in-ring a q = entry-below G (fits-faces G (A .vn) vs (A .plane) (A .fits)) (post vs (k + 1)) a (subst⁻¹ (In a) ring-is q)
 
     entry : (c : ℕ) → b ≤ c → c < e → In (getD ents c 0) (slice b e ents)
     entry c x y = subst (λ (a : ℕ). In a (slice b e ents)) (part-at ents b e c x y in-ents) (place-in (slice b e ents) (c - b) (omega (arith, long)))
 
-    pub named : (c : ℕ) → b ≤ c → c < e → getD ents c 0 < length vs
-    named c x y = in-ring (getD ents c 0) (entry c x y)
+    pub named : RankedEntries ents b e vs rank
+    named = record { n = length (held at ents); names = λ c x y. in-ring (getD ents c 0) (entry c x y); ranked = A .ranked }
 
     pub ranked : (c : ℕ) → b ≤ c → c < e → getD ents c 0 < length rank
     ranked c x y = omega (arith, in-ring (getD ents c 0) (entry c x y), A .ranked .room)
 
     same : (a : ℕ) → In a (slice b e ents) → earlier-than rank (k + 1) a ≡ mem (take k vs) a
-    same a q = sym (placed-by vs rank k (boarded-names G vs (A .passes .board) .once) (A .ranked) a (in-ring a q))
+    same a q = sym (placed-by (length (held at ents)) vs rank (A .ranked) k (omega arith) a (in-ring a q))
 
     last-is : getD ents (e - 1) 0 ≡ lastOf 0 (slice b e ents)
     last-is =
@@ -107,7 +106,7 @@ module _ (at ents vs rank : List ℕ) (A : Accepted at ents vs rank) (k : ℕ) (
       found : (opens (mem (take k vs)) (post vs 1) (mem (take k vs) (lastOf 0 (slice b e ents))) (slice b e ents) ≡ s .p) × (count (mem (take k vs)) (slice b e ents) ≡ length (s .M) + 2)
       found =
           subst (λ (l : List ℕ). (opens (mem (take k vs)) (post vs 1) (mem (take k vs) (lastOf 0 l)) l ≡ s .p) × (count (mem (take k vs)) l ≡ length (s .M) + 2)) ring-is
-          (run-found G vs (A .passes) k h i')
+          (run-found G (A .vn) vs (A .plane) (A .fits) k h i)
 
       p-is : p ≡ s .p
       p-is =
@@ -119,26 +118,25 @@ module _ (at ents vs rank : List ℕ) (A : Accepted at ents vs rank) (k : ℕ) (
       m-is = let q : k + 1 - 1 ≡ k = omega arith in em ∙ ap (λ (j : ℕ). count (mem (take j vs)) (slice b e ents)) q ∙ found .1
 
       K : Kept (stage (held at ents) (take k vs))
-      K = kept-at G vs (A .passes) k h (omega arith)
+      K = kept-at G (A .vn) vs (A .plane) (A .fits) k h (omega arith)
 
-      names : (a : ℕ) → In a (stage (held at ents) (take k vs) .placed) → a < length vs
+      names : (a : ℕ) → In a (stage (held at ents) (take k vs) .placed) → a < length (held at ents)
       names a q =
           let w = in-take k vs a (subst (In a) placed-is q) in
-          let b = boarded-names G vs (A .passes .board) .below (getD vs (w .0) 0) (place-in vs (w .0) (w .2)) in
-          omega (arith, many, subst (λ (c : ℕ). c < length (held at ents)) (w .3) b)
+          subst (λ (c : ℕ). c < length (held at ents)) (w .3) (A .fits .below (getD vs (w .0) 0) (place-in vs (w .0) (w .2)))
 
-      few : length (stage (held at ents) (take k vs) .placed) ≤ 1000
-      few = omega (arith, ap length placed-is, length-take-le k vs (omega arith), A .most)
+      few : length (stage (held at ents) (take k vs) .placed) ≤ limit
+      few = omega (arith, ap length placed-is, length-take-le k vs (omega arith), fits-few G (A .vn) vs (A .plane) (A .fits), A .most)
 
-      v-below : post vs (k + 1) < length vs
-      v-below = subst (λ (a : ℕ). a < length vs) new-is new-below
+      v-below : post vs (k + 1) < length (held at ents)
+      v-below = subst (λ (a : ℕ). a < length (held at ents)) new-is new-below
 
       module _ (ys off cover left right : List ℕ) (H : Holds at ents vs k ys off cover left right) where
         pub next-ready : Ready v p m ys off cover left right
         next-ready =
             subst⁻¹ (λ (a : ℕ). Ready a p m ys off cover left right) v-is
             (subst⁻¹ (λ (a : ℕ). Ready (post vs (k + 1)) a m ys off cover left right) p-is
-            (ready G t (post vs (k + 1)) s K (length vs) ys off cover left right (H .shows) (H .room) names v-below few m m-is))
+            (ready G t (post vs (k + 1)) s K (length (held at ents)) ys off cover left right (H .shows) (H .room) names v-below few m m-is))
 
         pub next-holds : (ys' off' cover' left' right' : List ℕ) → Over v p m ys off cover left right ys' off' cover' left' right' → Holds at ents vs (k + 1) ys' off' cover' left' right'
         next-holds ys' off' cover' left' right' O =
@@ -148,6 +146,6 @@ module _ (at ents vs rank : List ℕ) (A : Accepted at ents vs rank) (k : ℕ) (
             record {
               shows =
                   subst⁻¹ (λ (n : Stage). Shows n ys' off' cover' left' right') (stage-next G vs k h i)
-                  (shown G t (post vs (k + 1)) s K (length vs) ys off cover left right (H .shows) (H .room) names v-below few m m-is ys' off' cover' left' right' O');
-              room = roomy G t (post vs (k + 1)) s K (length vs) ys off cover left right (H .shows) (H .room) names v-below few m m-is ys' off' cover' left' right' O';
+                  (shown G t (post vs (k + 1)) s K (length (held at ents)) ys off cover left right (H .shows) (H .room) names v-below few m m-is ys' off' cover' left' right' O');
+              room = roomy G t (post vs (k + 1)) s K (length (held at ents)) ys off cover left right (H .shows) (H .room) names v-below few m m-is ys' off' cover' left' right' O';
             }

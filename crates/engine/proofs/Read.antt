@@ -1,5 +1,5 @@
 -- What is read from arrays that show a stage: the columns of its posts.
-use Prim.Native.Nat.{ℕ, zero, suc, _+_, _-_, _≤_, _<_}
+use Prim.Native.Nat.{ℕ, zero, suc, _+_, _*_, _-_, _≤_, _<_}
 use mathlib.Core.Path.{_≡_, refl, ap, sym, _∙_, subst, subst⁻¹}
 use mathlib.Core.Logic.{inl, inr}
 use mathlib.Core.List.{List, [], _∷_}
@@ -10,18 +10,19 @@ use lib.Seq.{getD-set-same, getD-set-other, getD-take, length-take-le}
 use borrow.Author.Tests.{eq-eqb, ne-eqb}
 use Rattle.words.specs.Lists.{In, lastOf}
 use Rattle.words.specs.Positions.{post}
-use Rattle.words.proofs.Lists.{Head, Adj, Once, in-dec, last-in, once-length}
+use Rattle.words.proofs.Lists.{Head, Adj, Once, in-dec, last-in, once-within}
 use Rattle.words.proofs.Tests.{place-in, once-different}
 use Rattle.words.proofs.Positions.{in-take, take-in}
 use Rattle.rings.specs.Held.{held}
 use Rattle.rings.proofs.Around.{After}
 use Rattle.order.proofs.Contour.{Contour}
-use Rattle.order.proofs.Sound.{boarded-names}
+use Rattle.block.specs.Layout.{limit}
+use Rattle.order.proofs.Fitting.{fits-once, fits-few}
 use Rattle.placing.specs.Stages.{Stage, stage}
 use Rattle.placing.proofs.Steps.{contours, stage-placed}
 use Rattle.plane.proofs.Sheet.{within}
 use Rattle.arrays.specs.Arrays.{along, Below}
-use Rattle.engine.specs.Found.{Accepted}
+use Rattle.engine.specs.Fitted.{Fitted}
 use Rattle.engine.specs.Shows.{Shows, Holds, Drawn}
 use Rattle.arrays.specs.Columns.{until, laid, columnOf, settled, ColumnFits, Settles, Rooms, Line, Readable, columnsOf}
 use Rattle.engine.proofs.Kept.{Kept, kept-at}
@@ -70,9 +71,9 @@ laid-ready vs off cover right xs zs k R e =
       rw e (R .settles),
     )
 
--- ---- a stage of an accepted block
-module _ (at ents vs rank : List ℕ) (A : Accepted at ents vs rank) (k : ℕ) (h : 3 ≤ k) (i : k ≤ length vs)
-    (ys off cover left right : List ℕ) (H : Holds at ents vs k ys off cover left right) (xs : List ℕ) (room : length vs ≤ length xs) where
+-- ---- a stage of a list that fits so far
+module _ (at ents vs rank : List ℕ) (A : Fitted at ents vs rank) (k : ℕ) (h : 3 ≤ k) (i : k ≤ length vs)
+    (ys off cover left right : List ℕ) (H : Holds at ents vs k ys off cover left right) (xs : List ℕ) (room : length (held at ents) ≤ length xs) where
   abbrev G : List (List ℕ)
   G = held at ents
 
@@ -82,26 +83,20 @@ module _ (at ents vs rank : List ℕ) (A : Accepted at ents vs rank) (k : ℕ) (
   abbrev S : Shows (stage (held at ents) (take k vs)) ys off cover left right
   S = H .shows
 
-  abbrev n : ℕ
-  n = length vs
-
-  many : length (held at ents) ≡ length vs
-  many = sym (A .passes .board .all)
-
   K : Kept (stage (held at ents) (take k vs))
-  K = kept-at G vs (A .passes) k h i
+  K = kept-at G (A .vn) vs (A .plane) (A .fits) k h i
 
   C : Contour (After (held at ents)) (post vs 1) (post vs 2) (take k vs) (stage (held at ents) (take k vs) .contour)
-  C = contours G vs (A .passes) k h (omega (arith, many))
+  C = contours G (A .vn) vs (A .plane) (A .fits) k h i
 
   placed-is : stage (held at ents) (take k vs) .placed ≡ take k vs
   placed-is = stage-placed G vs k h i
 
   once : Once vs
-  once = boarded-names G vs (A .passes .board) .once
+  once = fits-once G (A .vn) vs (A .plane) (A .fits)
 
-  name : (j : ℕ) → j < k → getD vs j 0 < length vs
-  name j l = omega (arith, many, boarded-names G vs (A .passes .board) .below (getD vs j 0) (place-in vs j (omega arith)))
+  name : (j : ℕ) → j < k → getD vs j 0 < length (held at ents)
+  name j l = A .fits .below (getD vs j 0) (place-in vs j (omega arith))
 
   placed-at : (j : ℕ) → j < k → In (getD vs j 0) (stage (held at ents) (take k vs) .placed)
   placed-at j l = subst⁻¹ (In (getD vs j 0)) placed-is (take-in k vs j l (omega arith))
@@ -109,14 +104,20 @@ module _ (at ents vs rank : List ℕ) (A : Accepted at ents vs rank) (k : ℕ) (
   position : (u : ℕ) → In u (stage (held at ents) (take k vs) .placed) → (j : ℕ) × (j < k) × (getD vs j 0 ≡ u)
   position u q = let w = in-take k vs u (subst (In u) placed-is q) in (w .0, w .1, w .3)
 
-  low : (u : ℕ) → In u (stage (held at ents) (take k vs) .placed) → stage (held at ents) (take k vs) .x u ≤ 1996
-  low u q = omega (arith, within (K .drawn) u q, ap length placed-is, length-take-le k vs i, A .most)
+  low : (u : ℕ) → In u (stage (held at ents) (take k vs) .placed) → stage (held at ents) (take k vs) .x u + 4 ≤ 2 * limit
+  low u q =
+      let few = fits-few G (A .vn) vs (A .plane) (A .fits) in
+      omega (arith, within (K .drawn) u q, ap length placed-is, length-take-le k vs i, A .most)
 
   on-placed : (u : ℕ) → In u (stage (held at ents) (take k vs) .contour) → In u (stage (held at ents) (take k vs) .placed)
   on-placed u q = subst⁻¹ (In u) placed-is (C .placed u q)
 
-  named : (u : ℕ) → In u (stage (held at ents) (take k vs) .contour) → u < length vs
-  named u q = let w = position u (on-placed u q) in subst (λ (a : ℕ). a < length vs) (w .2) (name (w .0) (w .1))
+  named : (u : ℕ) → In u (stage (held at ents) (take k vs) .contour) → u < length (held at ents)
+  named u q = let w = position u (on-placed u q) in subst (λ (a : ℕ). a < length (held at ents)) (w .2) (name (w .0) (w .1))
+
+  -- a post of the contour is one of the list
+  among : (u : ℕ) → In u (stage (held at ents) (take k vs) .contour) → In u vs
+  among u q = let w = position u (on-placed u q) in subst (λ (a : ℕ). In a vs) (w .2) (place-in vs (w .0) (omega (arith, w .1)))
 
   v1-is : post (stage (held at ents) (take k vs) .placed) 1 ≡ getD vs 0 0
   v1-is = ap (λ (l : List ℕ). post l 1) placed-is ∙ getD-take k vs 0 0 (omega arith)
@@ -140,7 +141,7 @@ module _ (at ents vs rank : List ℕ) (A : Accepted at ents vs rank) (k : ℕ) (
       let e = whole .is in
       let o = subst Once e (C .once) in
       until-list right (getD vs 0 0) (getD vs 1 0) (length vs) L o (ap (lastOf (post vs 1)) (sym e) ∙ C .last) (λ x y j. S .right-is x y (subst⁻¹ (λ (l : List ℕ). Adj l x y) e j))
-      (once-length (length vs) (getD vs 0 0 ∷ L) o (λ a q. named a (subst⁻¹ (In a) e q)))
+      (once-within (getD vs 0 0 ∷ L) vs o (λ a q. among a (subst⁻¹ (In a) e q)))
       ∙ sym e
 
   origin : stage (held at ents) (take k vs) .x (getD vs 0 0) ≡ 0
@@ -149,7 +150,7 @@ module _ (at ents vs rank : List ℕ) (A : Accepted at ents vs rank) (k : ℕ) (
   none : getD off (getD vs 0 0) 0 ≡ 0
   none = ap (λ (a : ℕ). getD off a 0) (sym v1-is) ∙ S .from-none
 
-  below : (m : ℕ) → length vs ≤ m → Below m (until right (getD vs 0 0) (getD vs 1 0) (length vs))
+  below : (m : ℕ) → length (held at ents) ≤ m → Below m (until right (getD vs 0 0) (getD vs 1 0) (length vs))
   below m q = rw path-is (below-all m (stage (held at ents) (take k vs) .contour) (λ a j. omega (arith, named a j)))
 
   line : Line right off xs (getD vs 0 0) (getD vs 1 0) (length vs)
@@ -178,7 +179,7 @@ module _ (at ents vs rank : List ℕ) (A : Accepted at ents vs rank) (k : ℕ) (
 
   -- what holds with the positions from j on read
   record Read (zs : List ℕ) (j : ℕ) : Type 0 where
-    long : length vs ≤ length zs
+    long : length (held at ents) ≤ length zs
     on-contour : (u : ℕ) → In u (stage (held at ents) (take k vs) .contour) → getD zs u 0 ≡ stage (held at ents) (take k vs) .x u
     from-j : (m : ℕ) → j ≤ m → m < k → getD zs (getD vs m 0) 0 ≡ stage (held at ents) (take k vs) .x (getD vs m 0)
 
@@ -246,10 +247,10 @@ module _ (at ents vs rank : List ℕ) (A : Accepted at ents vs rank) (k : ℕ) (
         from-j = λ m a b. absurd (omega arith);
       }
 
-  covers-below : (j : ℕ) → j < k → getD cover (getD vs j 0) 0 < length vs
+  covers-below : (j : ℕ) → j < k → getD cover (getD vs j 0) 0 < length (held at ents)
   covers-below j l = go (in-dec (getD vs j 0) (stage (held at ents) (take k vs) .contour))
     where
-      go : Dec (In (getD vs j 0) (stage (held at ents) (take k vs) .contour)) → getD cover (getD vs j 0) 0 < length vs
+      go : Dec (In (getD vs j 0) (stage (held at ents) (take k vs) .contour)) → getD cover (getD vs j 0) 0 < length (held at ents)
       go (yes q) = rw (S .bare (getD vs j 0) q) (name j l)
       go (no q) = let w = later j l q in rw (S .covers (getD vs j 0) (placed-at j l) q, ← (w .3)) (name (w .0) (w .2))
 

@@ -8,6 +8,7 @@ use lib.ListN.{length, getD, set, length-set}
 use lib.Seq.{getD-set-same, getD-set-other}
 use Rattle.words.specs.Lists.{In}
 use Rattle.words.proofs.Lists.{Head, Adj, Once, once-split, once-drop, in-left, in-right, adj-left, adj-right, last-append}
+use Rattle.block.specs.Layout.{limit}
 use Rattle.placing.specs.Stages.{Stage, place}
 use Rattle.placing.proofs.Steps.{Step}
 use Rattle.placing.proofs.Placed.{p-old, q-old}
@@ -23,7 +24,7 @@ halves : (xp yp xq yq f d h xv yv : ℕ) → xp + f ≡ xq + 2 → xp + yp ≤ x
 halves xp yp xq yq f d h xv yv e1 e2 e3 e4 e5 e6 e7 = omega arith
 
 module _ (G : List (List ℕ)) (t : Stage) (v : ℕ) (s : Step G t v) (K : Kept t) (n : ℕ) (ys off cover left right : List ℕ) (S : Shows t ys off cover left right) (W : Room n ys off cover left right)
-    (names : (a : ℕ) → In a (t .placed) → a < n) (below : v < n) (few : length (t .placed) ≤ 1000) (m : ℕ) (em : m ≡ length (s .M) + 2) where
+    (names : (a : ℕ) → In a (t .placed) → a < n) (below : v < n) (few : length (t .placed) ≤ limit) (m : ℕ) (em : m ≡ length (s .M) + 2) where
   abbrev t' : Stage
   t' = place G t v
 
@@ -116,9 +117,9 @@ module _ (G : List (List ℕ)) (t : Stage) (v : ℕ) (s : Step G t v) (K : Kept 
     yv : t' .y v ≡ newHeight ys off right p m
     most : newOff ys off right p m ≤ farAt right off p m
     low : t .y p ≤ farAt right off p m + t .y q
-    far-small : farAt right off p m ≤ 1998
-    yp-small : t .y p ≤ 1996
-    yq-small : t .y q ≤ 1996
+    far-small : farAt right off p m + 2 ≤ 2 * limit
+    yp-small : t .y p + 4 ≤ 2 * limit
+    yq-small : t .y q + 4 ≤ 2 * limit
 
   facts : Facts
   facts =
@@ -164,7 +165,7 @@ module _ (G : List (List ℕ)) (t : Stage) (v : ℕ) (s : Step G t v) (K : Kept 
         low = omega (arith, F .low, yp-is, yq-is);
         off-fits = omega (arith, F .most, F .far-small);
         off-far = F .most;
-        fits = rw inner-is (fits-list (t .x) (t .x p) (newOff ys off right p m) 1996 (omega arith) off p 1 M once-in apart-in (omega arith) (λ a i. omega (arith, N .within a (on-in a i))));
+        fits = rw inner-is (fits-list (t .x) (t .x p) (newOff ys off right p m) (2 * limit) (omega arith) off p 1 M once-in apart-in (omega arith) (λ a i. omega (arith, N .within a (on-in a i))));
       }
 
   -- ---- the arrays after it

@@ -10,12 +10,12 @@ use Rattle.words.specs.Lists.{In}
 use Rattle.words.proofs.Lists.{Adj}
 use Rattle.words.proofs.Tests.{eqb-same, eqb-other, place-in}
 use Rattle.rings.specs.Held.{held}
-use Rattle.order.proofs.Sound.{boarded-names}
+use Rattle.order.proofs.Fitting.{fits-once}
 use Rattle.placing.specs.Stages.{Stage, third}
 use Rattle.placing.proofs.Steps.{stage-third}
-use Rattle.engine.specs.Found.{Accepted}
+use Rattle.engine.specs.Fitted.{Fitted}
 use Rattle.engine.specs.Shows.{Shows, Room, Corners, Holds}
-use Rattle.engine.proofs.Kept.{apart}
+use Rattle.plane.proofs.Every.{three-differ}
 
 module _ (v1 v2 v3 : ℕ) (d12 : v1 ≢ v2) (d13 : v1 ≢ v3) (d23 : v2 ≢ v3) where
   -- three stores
@@ -108,22 +108,21 @@ pub start-shows : (v1 v2 v3 : ℕ) (ys off cover left right ys' off' cover' left
 start-shows v1 v2 v3 ys off cover left right ys' off' cover' left' right' C e1 e2 e3 e4 e5 =
     rw (e1, e2, e3, e4, e5) (third-shows v1 v2 v3 (C .apart12) (C .apart13) (C .apart23) (C .n) ys off cover left right (C .room) (C .below1) (C .below2) (C .below3))
 
--- ---- of an accepted block
-module _ (at ents vs rank ys off cover left right : List ℕ) (A : Accepted at ents vs rank) (W : Room (length vs) ys off cover left right) where
+-- ---- of a list that fits so far
+module _ (at ents vs rank ys off cover left right : List ℕ) (A : Fitted at ents vs rank) (W : Room (length (held at ents)) ys off cover left right) where
   pub corners : Corners (getD vs 0 0) (getD vs 1 0) (getD vs 2 0) ys off cover left right
   corners =
-      let P = A .passes in
-      let n : length vs ≡ length (held at ents) = P .board .all in
-      let b = boarded-names (held at ents) vs (P .board) .below in
+      let b = A .fits .below in
+      let d = three-differ vs (fits-once (held at ents) (A .vn) vs (A .plane) (A .fits)) (A .three) in
       record {
-        n = length vs;
+        n = length (held at ents);
         room = W;
-        below1 = omega (arith, b (getD vs 0 0) (place-in vs 0 (omega (arith, A .three))));
-        below2 = omega (arith, b (getD vs 1 0) (place-in vs 1 (omega (arith, A .three))));
-        below3 = omega (arith, b (getD vs 2 0) (place-in vs 2 (omega (arith, A .three))));
-        apart12 = apart (held at ents) vs P 0 1 (omega (arith, A .three)) (omega (arith, A .three)) (λ e. omega arith);
-        apart13 = apart (held at ents) vs P 0 2 (omega (arith, A .three)) (omega (arith, A .three)) (λ e. omega arith);
-        apart23 = apart (held at ents) vs P 1 2 (omega (arith, A .three)) (omega (arith, A .three)) (λ e. omega arith);
+        below1 = b (getD vs 0 0) (place-in vs 0 (omega (arith, A .three)));
+        below2 = b (getD vs 1 0) (place-in vs 1 (omega (arith, A .three)));
+        below3 = b (getD vs 2 0) (place-in vs 2 (omega (arith, A .three)));
+        apart12 = d .0;
+        apart13 = d .1;
+        apart23 = d .2;
       }
 
   pub third-holds : (ys' off' cover' left' right' : List ℕ) → Shows (third (getD vs 0 0) (getD vs 1 0) (getD vs 2 0)) ys' off' cover' left' right'

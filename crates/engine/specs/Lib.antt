@@ -1,3 +1,2 @@
-pub mod Found
 pub mod Shows
 pub mod Recorded

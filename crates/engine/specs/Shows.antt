@@ -44,13 +44,13 @@ pub record Corners (v1 v2 v3 : ℕ) (ys off cover left right : List ℕ) : Type 
   pub apart13 : v1 ≢ v3
   pub apart23 : v2 ≢ v3
 
--- the arrays hold stage k of an accepted block, with room for all its posts
+-- the arrays hold the stage of the first k posts of the list, with room for all posts of the board
 pub record Holds (at ents vs : List ℕ) (k : ℕ) (ys off cover left right : List ℕ) : Type 0 where
   pub shows : Shows (stage (held at ents) (take k vs)) ys off cover left right
-  pub room : Room (length vs) ys off cover left right
+  pub room : Room (length (held at ents)) ys off cover left right
 
 -- and the columns of its posts
 pub record Drawn (at ents vs : List ℕ) (k : ℕ) (ys off cover left right xs : List ℕ) : Type 0 where
   pub holds : Holds at ents vs k ys off cover left right
   pub column : (u : ℕ) → In u (stage (held at ents) (take k vs) .placed) → getD xs u 0 ≡ stage (held at ents) (take k vs) .x u
-  pub roomy : length vs ≤ length xs
+  pub roomy : length (held at ents) ≤ length xs

@@ -1,4 +1,4 @@
-// Reaching a stage in linear time, once a check has accepted the block: differences are kept, and no post is moved.
+// Reaching a stage of a list of posts that fits so far, in linear time: differences are kept, and no post is moved.
 use placing::Record;
 use placing::Standing;
 ghost use mathlib.Core.Path.{_≡_};
@@ -6,7 +6,7 @@ ghost use mathlib.Core.List.{_++_};
 ghost use Prim.Native.Nat.{_+_, _*_, _≤_, _<_};
 ghost use lib.ListN.{length, take, drop};
 ghost use Rattle.block.specs.Layout.{limit};
-ghost use Rattle.engine.specs.Found.{Accepted};
+ghost use Rattle.engine.specs.Fitted.{Fitted};
 ghost use Rattle.rings.specs.Held.{held};
 ghost use Rattle.placing.specs.Stages.{third, stage};
 ghost use Rattle.placing.specs.Records.{recordOf, entriesOf};
@@ -14,7 +14,7 @@ ghost use Rattle.arrays.specs.Columns.{Readable, columnsOf};
 ghost use Rattle.engine.specs.Recorded.{recordBy};
 ghost use Rattle.engine.specs.Shows.{Shows, Room, Corners, Holds, Drawn};
 
-// From stage k to stage k + 1 of an accepted block: the post in position k + 1 is placed.
+// From stage k to stage k + 1: the post in position k + 1 is placed.
 pub fn place_next(
     at: &[u16],
     ents: &[u16],
@@ -27,7 +27,7 @@ pub fn place_next(
     left: &mut [u16],
     right: &mut [u16],
 )
-    requires { ⌜ Accepted (now at) (now ents) (now vs) (now rank) × (3 ≤ k) × (k < length (now vs)) × Holds (now at) (now ents) (now vs) k (now ys) (now off) (now cover) (now left) (now right) ⌝ }
+    requires { ⌜ Fitted (now at) (now ents) (now vs) (now rank) × (3 ≤ k) × (k < length (now vs)) × Holds (now at) (now ents) (now vs) k (now ys) (now off) (now cover) (now left) (now right) ⌝ }
     ensures { λ r. ⌜ Holds (now (at .entry)) (now (ents .entry)) (now (vs .entry)) (k + 1) (now (ys .exit)) (now (off .exit)) (now (cover .exit)) (now (left .exit)) (now (right .exit)) ⌝ }
 {
     let v = vs[k];
@@ -60,7 +60,7 @@ fn start(
     arrays::three(right, v1, v3, v2, v2, v3, v2);
 }
 
-// Stage k of an accepted block: stage 3, and one post after the other.
+// Stage k: stage 3, and one post after the other.
 pub fn reach(
     at: &[u16],
     ents: &[u16],
@@ -73,7 +73,7 @@ pub fn reach(
     left: &mut [u16],
     right: &mut [u16],
 )
-    requires { ⌜ Accepted (now at) (now ents) (now vs) (now rank) × (3 ≤ k) × (k ≤ length (now vs)) × Room (length (now vs)) (now ys) (now off) (now cover) (now left) (now right) ⌝ }
+    requires { ⌜ Fitted (now at) (now ents) (now vs) (now rank) × (3 ≤ k) × (k ≤ length (now vs)) × Room (length (held (now at) (now ents))) (now ys) (now off) (now cover) (now left) (now right) ⌝ }
     ensures { λ r. ⌜ Holds (now (at .entry)) (now (ents .entry)) (now (vs .entry)) k (now (ys .exit)) (now (off .exit)) (now (cover .exit)) (now (left .exit)) (now (right .exit)) ⌝ }
 {
     start(vs[0], vs[1], vs[2], ys, off, cover, left, right);
@@ -93,7 +93,7 @@ pub fn columns(vs: &[u16], off: &[u16], cover: &[u16], right: &[u16], xs: &mut [
     arrays::settle(vs, off, cover, xs, k);
 }
 
-// Stage k of an accepted block with the columns of its posts.
+// Stage k with the columns of its posts.
 pub fn draw(
     at: &[u16],
     ents: &[u16],
@@ -107,7 +107,7 @@ pub fn draw(
     right: &mut [u16],
     xs: &mut [u16],
 )
-    requires { ⌜ Accepted (now at) (now ents) (now vs) (now rank) × (3 ≤ k) × (k ≤ length (now vs)) × Room (length (now vs)) (now ys) (now off) (now cover) (now left) (now right) × (length (now vs) ≤ length (now xs)) ⌝ }
+    requires { ⌜ Fitted (now at) (now ents) (now vs) (now rank) × (3 ≤ k) × (k ≤ length (now vs)) × Room (length (held (now at) (now ents))) (now ys) (now off) (now cover) (now left) (now right) × (length (held (now at) (now ents)) ≤ length (now xs)) ⌝ }
     ensures { λ r. ⌜ Drawn (now (at .entry)) (now (ents .entry)) (now (vs .entry)) k (now (ys .exit)) (now (off .exit)) (now (cover .exit)) (now (left .exit)) (now (right .exit)) (now (xs .exit)) ⌝ }
 {
     reach(at, ents, vs, rank, k, ys, off, cover, left, right);
@@ -129,7 +129,7 @@ pub fn sheet_at(
     xs: &mut [u16],
     buffer: &mut [u16],
 )
-    requires { ⌜ Accepted (now at) (now ents) (now vs) (now rank) × (3 ≤ k) × (k ≤ length (now vs)) × Room (length (now vs)) (now ys) (now off) (now cover) (now left) (now right) × (length (now vs) ≤ length (now xs)) × (2 * k ≤ length (now buffer)) ⌝ }
+    requires { ⌜ Fitted (now at) (now ents) (now vs) (now rank) × (3 ≤ k) × (k ≤ length (now vs)) × Room (length (held (now at) (now ents))) (now ys) (now off) (now cover) (now left) (now right) × (length (held (now at) (now ents)) ≤ length (now xs)) × (2 * k ≤ length (now buffer)) ⌝ }
     ensures { λ r. ⌜ now (buffer .exit) ≡ entriesOf (stage (held (now (at .entry)) (now (ents .entry))) (take k (now (vs .entry)))) ++ drop (2 * k) (now (buffer .entry)) ⌝ }
 {
     draw(at, ents, vs, rank, k, ys, off, cover, left, right, xs);
@@ -188,7 +188,7 @@ pub fn post_at(
     right: &mut [u16],
     xs: &mut [u16],
 ) -> Record
-    requires { ⌜ Accepted (now at) (now ents) (now vs) (now rank) × (3 ≤ k) × (k ≤ length (now vs)) × Room (length (now vs)) (now ys) (now off) (now cover) (now left) (now right) × (length (now vs) ≤ length (now xs)) × (u < length (now vs)) ⌝ }
+    requires { ⌜ Fitted (now at) (now ents) (now vs) (now rank) × (3 ≤ k) × (k ≤ length (now vs)) × Room (length (held (now at) (now ents))) (now ys) (now off) (now cover) (now left) (now right) × (length (held (now at) (now ents)) ≤ length (now xs)) × (u < length (held (now at) (now ents))) ⌝ }
     ensures { λ r. ⌜ r ≡ recordOf (stage (held (now (at .entry)) (now (ents .entry))) (take k (now (vs .entry)))) u ⌝ }
 {
     draw(at, ents, vs, rank, k, ys, off, cover, left, right, xs);

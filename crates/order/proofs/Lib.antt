@@ -9,3 +9,6 @@ pub mod Sound
 pub mod Fitting
 pub mod Ranked
 pub mod Rule
+pub mod Opens
+pub mod Finding
+pub mod Next

@@ -1,12 +1,12 @@
 -- Positions by name: earlier and later as comparisons of positions; and what one turn more of a loop over a ring counts.
 use Prim.Native.Nat.{ℕ, suc, _+_, _-_, _≤_, _<_}
-use mathlib.Core.Path.{_≡_, refl, sym, _∙_}
+use mathlib.Core.Path.{_≡_, refl, sym, ap, _∙_}
 use mathlib.Core.Bool.{Bool, true, false, not, cond, _&&_}
 use mathlib.Core.List.{List}
 use native.Mathlib.Omega.{arith}
 use native.Mathlib.Decide.{ℕ-discrete, decLt}
 use lib.Dec.{ltb}
-use lib.ListN.{length, getD, drop, set}
+use lib.ListN.{length, getD, take, drop, set}
 use lib.Seq.{slice, length-slice, getD-set-same, getD-set-other}
 use borrow.Author.Tests.{lt-ltb, le-ltb}
 use Rattle.words.specs.Lists.{In, mem}
@@ -17,6 +17,7 @@ use Rattle.words.proofs.Positions.{earlier-in, in-earlier, post-suc}
 use Rattle.block.specs.Block.{badEntry}
 use Rattle.rings.specs.Rings.{around}
 use Rattle.rings.proofs.Turns.{pair-here, pair-next, around-here, around-after, around-first}
+use Rattle.order.specs.Opens.{before}
 use Rattle.order.specs.Held.{RankedBelow, Ranked, Names, RankedEntries, starts}
 use Rattle.order.proofs.Sound.{position-says, order-below, order-once}
 use Rattle.order.proofs.Starts.{starts-last}
@@ -42,6 +43,12 @@ module _ (n : ℕ) (vs rank : List ℕ) (R : RankedBelow n vs rank) (a : ℕ) (h
           lt-ltb (getD rank a 0) k l ∙ sym (is-true (mem (earlier vs k) a) (in-mem (earlier vs k) a (earlier-in vs k a (omega arith) (by-position .1 l))))
       go (no m) =
           le-ltb (getD rank a 0) k (omega arith) ∙ sym (is-false (mem (earlier vs k) a) (λ t. m (by-position .0 (in-earlier vs k a (mem-in (earlier vs k) a t)))))
+
+-- a post placed, by its position
+pub placed-by : (n : ℕ) (vs rank : List ℕ) → RankedBelow n vs rank → (k : ℕ) → k ≤ length vs → (a : ℕ) → a < n → mem (take k vs) a ≡ before rank (k + 1) a
+placed-by n vs rank r k i a h =
+    let e : k + 1 - 1 ≡ k = omega arith in
+    sym (before-says n vs rank r a h (k + 1) (omega arith) ∙ ap (λ (j : ℕ). mem (take j vs) a) e)
 
 -- ---- filling in the positions
 

@@ -1,9 +1,9 @@
-// The order of fitting: the position of each name, and the rule at each position (steps 12 and 13).
+// The order of fitting: the position of each name, the rule at each position (steps 12 and 13), and the run of the next post.
 ghost use mathlib.Core.Path.{_≡_};
 ghost use mathlib.Core.Bool.{true, false, not, cond, _&&_};
 ghost use Prim.Native.Nat.{ℕ, _+_, _-_, _≤_, _<_};
 ghost use lib.Dec.{ltb};
-ghost use lib.ListN.{length, getD};
+ghost use lib.ListN.{length, getD, take};
 ghost use lib.Seq.{slice};
 ghost use Rattle.words.specs.Lists.{mem, count};
 ghost use Rattle.words.specs.Positions.{post, earlier};
@@ -11,7 +11,9 @@ ghost use Rattle.block.specs.Layout.{limit};
 ghost use Rattle.block.specs.Block.{badEntry};
 ghost use Rattle.rings.specs.Rings.{around};
 ghost use Rattle.rings.specs.Held.{held};
-ghost use Rattle.order.specs.Order.{twoPlaced, oneRun};
+ghost use Rattle.order.specs.Order.{twoPlaced, oneRun, run};
+ghost use Rattle.order.specs.Opens.{before, opens};
+ghost use Rattle.order.specs.Fitted.{Fitted};
 ghost use Rattle.order.specs.Held.{Ranked, RankedEntries, Listed, starts, fitOf};
 
 // What the order's rule finds in a position: nothing amiss; fewer than two earlier neighbours; they aren't one run.
@@ -103,4 +105,50 @@ pub fn rule_at(ents: &[u16], at: &[u16], vs: &[u16], rank: &[u16], k: usize) -> 
         return Fit::Broken;
     }
     Fit::Good
+}
+
+fn begins(last: bool, here: bool) -> bool
+    ensures { λ r. ⌜ r ≡ (not last && here) ⌝ }
+{
+    if last {
+        return false;
+    }
+    here
+}
+
+// Where a run begins among the entries from b to e, read around: the first one before position k after one that is not; v1 if there is none.
+fn run_begins(ents: &[u16], b: usize, e: usize, rank: &[u16], k: usize, v1: u16) -> u16
+    requires { ⌜ (b < e) × (e ≤ length (now ents)) × ((j : ℕ) → b ≤ j → j < e → getD (now ents) j 0 < length (now rank)) ⌝ }
+    ensures { λ r. ⌜ r ≡ opens (before (now (rank .entry)) k) v1 (before (now (rank .entry)) k (getD (now (ents .entry)) (e - 1) 0)) (slice b e (now (ents .entry))) ⌝ }
+{
+    let mut last = is_before(rank, ents[e - 1], k);
+    let mut i = b;
+    while i < e {
+        let here = is_before(rank, ents[i], k);
+        if begins(last, here) {
+            return ents[i];
+        }
+        last = here;
+        i += 1;
+    }
+    v1
+}
+
+// A run in the order's rule: its first post, and how many there are.
+pub struct NextRun {
+    pub first: u16,
+    pub many: usize,
+}
+
+// The run of the post in position k + 1.
+pub fn next_run(at: &[u16], ents: &[u16], vs: &[u16], rank: &[u16], k: usize) -> NextRun
+    requires { ⌜ Fitted (now at) (now ents) (now vs) (now rank) × (2 ≤ k) × (k < length (now vs)) ⌝ }
+    ensures { λ r. ⌜ (r .first ≡ post (run (held (now (at .entry)) (now (ents .entry))) (take k (now (vs .entry))) (post (now (vs .entry)) (k + 1))) 1) × (r .many ≡ length (run (held (now (at .entry)) (now (ents .entry))) (take k (now (vs .entry))) (post (now (vs .entry)) (k + 1)))) ⌝ }
+{
+    let j = words::number(vs[k]);
+    let b = words::number(at[j]);
+    let e = words::number(at[j + 1]);
+    let first = run_begins(ents, b, e, rank, k + 1, vs[0]);
+    let many = count_before(ents, b, e, vs, rank, k + 1);
+    NextRun { first, many }
 }

@@ -1,5 +1,5 @@
 -- Lists of names: membership, neighbours in a list, and a stretch of a list.
-use mathlib.Core.Path.{_≡_, refl, sym, ap, _∙_}
+use mathlib.Core.Path.{_≡_, refl, sym, ap, _∙_, subst}
 use mathlib.Core.Logic.{_⊎_, inl, inr}
 use Prim.Native.Nat.{ℕ, zero, suc, _≤_, _<_}
 use native.Mathlib.Omega.{arith}
@@ -205,6 +205,16 @@ all-there n l o h k a b = go (in-dec a l)
     go : Dec (In a l) → In a l
     go (yes i) = i
     go (no m) = absurd (let t = once-length n (a ∷ l) (m, o) (λ c. elim [ inl e ↦ rw e b | inr i ↦ h c i ]) in omega arith)
+
+-- a list of different entries is no longer than one that has them all
+pub once-within : (l m : List ℕ) → Once l → ((a : ℕ) → In a l → In a m) → length l ≤ length m
+once-within [] m o h = omega arith
+once-within (x ∷ l) m o h =
+    let c = cut-at x m (h x (inl refl)) in
+    let t = once-within l (c .0 ++ c .1) (o .1) (λ a i.
+    in-cases a (c .0) (x ∷ c .1) (in-left a (c .0) (c .1)) (elim [ inl e ↦ absurd (o .0 (rw e at i)) | inr j ↦ in-right a (c .0) (c .1) j ])
+    (subst (In a) (c .2) (h a (inr i)))) in
+    omega (arith, ap length (c .2), length-append (c .0) (x ∷ c .1), length-append (c .0) (c .1))
 
 -- ---- a list read from another place on has the same entries, each as often
 pub once-split : (X Y : List ℕ) → Once (X ++ Y) → Once X × ((a : ℕ) → In a X → ¬ (In a Y))

@@ -3,7 +3,7 @@ use Rattle.engine.proofs.sheet_at.Statement.{statement}
 use Rattle.engine.proofs.sheet_at.Tie as tie
 use native.Mathlib.Omega.{arith}
 use Prim.Native.Nat.{ℕ}
-use Rattle.engine.proofs.Given.{names-fit, sheet-is}
+use Rattle.engine.proofs.Given.{stage-within, names-fit, sheet-is}
 
 draw-requires : tie.Need-draw-requires
 draw-requires c κs = search needs
@@ -12,7 +12,7 @@ write-sheet-requires : tie.Need-write-sheet-requires
 write-sheet-requires c κs =
     let b = c .before .before .before .before .before .before .before .before .before .before .before .before .before .before .before .before .before .before .before .before .before .before .before .before .before .before .before .before .before .before .before .before .before .pre in (
       omega (arith, b .2),
-      omega (arith, b .2, b .0 .most),
+      stage-within _ _ _ _ (b .0) _ (b .2),
       omega (arith, b .5),
       λ (j : ℕ) l. names-fit _ _ _ _ (b .0) _ (b .1) (b .2) _ _ _ _ _ _ (c .before .before .before .before .before .before .before .before .before .before .before .before .before .before .before .draw .ensures) j (omega (arith, l)),
     )

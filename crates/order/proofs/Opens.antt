@@ -6,7 +6,7 @@ use mathlib.Core.List.{List, [], _∷_}
 use lib.ListN.{length, getD}
 use lib.Seq.{slice, slice-empty}
 use Rattle.rings.proofs.Turns.{part-step}
-use Rattle.arrays.specs.Opens.{opens}
+use Rattle.order.specs.Opens.{opens}
 
 module _ (p : ℕ → Bool) (z : ℕ) (w : Bool) where
   opens-cons : (y : ℕ) (l : List ℕ) → opens p z w (y ∷ l) ≡ cond (not w && p y) y (opens p z (p y) l)

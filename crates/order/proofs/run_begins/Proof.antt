@@ -1,12 +1,12 @@
-use Rattle.arrays.proofs.run_begins.Statement.{statement}
-use Rattle.arrays.proofs.run_begins.Tie as tie
+use Rattle.order.proofs.run_begins.Statement.{statement}
+use Rattle.order.proofs.run_begins.Tie as tie
 use native.Mathlib.Omega.{arith}
 use Prim.Native.Nat.{_≤_, _-_}
 use mathlib.Core.Path.{_≡_, refl, sym, _∙_}
 use lib.ListN.{getD}
 use lib.Seq.{slice}
-use Rattle.arrays.specs.Opens.{before, opens}
-use Rattle.arrays.proofs.Opens.{opens-here, opens-next, opens-end}
+use Rattle.order.specs.Opens.{before, opens}
+use Rattle.order.proofs.Opens.{opens-here, opens-next, opens-end}
 use borrow.Author.Needs.{needs}
 
 abbrev Inv-loop : tie.InvT-loop

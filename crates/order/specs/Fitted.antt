@@ -1,0 +1,20 @@
+-- What the engine takes: plane rings and a list of posts that fits so far, as running code holds them.
+use Prim.Native.Nat.{ℕ, _≤_}
+use mathlib.Core.List.{List}
+use lib.ListN.{length}
+use Rattle.words.specs.Positions.{post}
+use Rattle.block.specs.Layout.{limit}
+use Rattle.rings.specs.Plane.{Plane}
+use Rattle.rings.specs.Held.{held, Cuts}
+use Rattle.order.specs.Fitting.{FitsSoFar}
+use Rattle.order.specs.Held.{RankedBelow}
+
+-- all lists' entries, where each list begins, the list of posts, and the positions by name; an accepted block's order is such a list
+pub record Fitted (at ents vs rank : List ℕ) : Type 0 where
+  pub vn : ℕ
+  pub plane : Plane (held at ents) (post vs 1) (post vs 2) vn
+  pub fits : FitsSoFar (held at ents) vn vs
+  pub cuts : Cuts at ents
+  pub three : 3 ≤ length vs
+  pub most : length (held at ents) ≤ limit
+  pub ranked : RankedBelow (length (held at ents)) vs rank
