@@ -23,12 +23,12 @@ use Rattle.placing.specs.Stages.{stage}
 use Rattle.placing.specs.Records.{leftOf, rightOf, standing, recordOf, entriesOf}
 use Rattle.placing.specs.declared.Standing.the-variants.{Waiting, OnContour, Covered}
 use Rattle.placing.proofs.Steps.{contours, stage-placed}
-use Rattle.arrays.specs.Opens.{before}
-use Rattle.engine.specs.Fitted.{Fitted}
+use Rattle.order.specs.Opens.{before}
+use Rattle.order.specs.Fitted.{Fitted}
 use Rattle.engine.specs.Shows.{Shows, Drawn}
 use Rattle.arrays.specs.Sheet.{pairs}
 use Rattle.engine.specs.Recorded.{recordBy}
-use Rattle.engine.proofs.Found.{placed-by}
+use Rattle.order.proofs.Ranked.{placed-by}
 use Rattle.engine.proofs.Read.{later}
 
 -- ---- neighbours on a contour

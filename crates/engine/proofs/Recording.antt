@@ -6,7 +6,7 @@ use mathlib.Core.List.{List}
 use lib.ListN.{getD}
 use borrow.Author.Tests.{eq-eqb, ne-eqb, not-true, not-false}
 use Rattle.placing.specs.declared.Standing.the-variants.{Waiting, OnContour, Covered}
-use Rattle.arrays.specs.Opens.{before}
+use Rattle.order.specs.Opens.{before}
 use Rattle.engine.specs.Recorded.{recordBy}
 
 module _ (rank : List ℕ) (k : ℕ) (xs ys cover left right : List ℕ) (u : ℕ) (r : Bool) (er : r ≡ before rank (k + 1) u) where

@@ -13,7 +13,7 @@ use Rattle.rings.specs.Held.{held}
 use Rattle.order.proofs.Fitting.{fits-once}
 use Rattle.placing.specs.Stages.{Stage, third}
 use Rattle.placing.proofs.Steps.{stage-third}
-use Rattle.engine.specs.Fitted.{Fitted}
+use Rattle.order.specs.Fitted.{Fitted}
 use Rattle.engine.specs.Shows.{Shows, Room, Corners, Holds}
 use Rattle.plane.proofs.Every.{three-differ}
 

@@ -6,7 +6,7 @@ use lib.Dec.{eqb}
 use lib.ListN.{getD}
 use Rattle.placing.specs.declared.Standing.the-variants.{Waiting, OnContour, Covered}
 use Rattle.placing.specs.declared.Record.{Record}
-use Rattle.arrays.specs.Opens.{before}
+use Rattle.order.specs.Opens.{before}
 
 -- a waiting post has x = y = 0; one that nobody covers stands on the contour
 abbrev pub recordBy : (rank : List ℕ) → ℕ → (xs ys cover left right : List ℕ) → ℕ → Record

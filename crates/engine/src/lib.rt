@@ -6,7 +6,7 @@ ghost use mathlib.Core.List.{_++_};
 ghost use Prim.Native.Nat.{_+_, _*_, _≤_, _<_};
 ghost use lib.ListN.{length, take, drop};
 ghost use Rattle.block.specs.Layout.{limit};
-ghost use Rattle.engine.specs.Fitted.{Fitted};
+ghost use Rattle.order.specs.Fitted.{Fitted};
 ghost use Rattle.rings.specs.Held.{held};
 ghost use Rattle.placing.specs.Stages.{third, stage};
 ghost use Rattle.placing.specs.Records.{recordOf, entriesOf};
@@ -30,13 +30,8 @@ pub fn place_next(
     requires { ⌜ Fitted (now at) (now ents) (now vs) (now rank) × (3 ≤ k) × (k < length (now vs)) × Holds (now at) (now ents) (now vs) k (now ys) (now off) (now cover) (now left) (now right) ⌝ }
     ensures { λ r. ⌜ Holds (now (at .entry)) (now (ents .entry)) (now (vs .entry)) (k + 1) (now (ys .exit)) (now (off .exit)) (now (cover .exit)) (now (left .exit)) (now (right .exit)) ⌝ }
 {
-    let v = vs[k];
-    let j = words::number(v);
-    let b = words::number(at[j]);
-    let e = words::number(at[j + 1]);
-    let p = arrays::run_begins(ents, b, e, rank, k + 1, vs[0]);
-    let m = order::count_before(ents, b, e, vs, rank, k + 1);
-    arrays::place_over(v, p, m, ys, off, cover, left, right);
+    let run = order::next_run(at, ents, vs, rank, k);
+    arrays::place_over(vs[k], run.first, run.many, ys, off, cover, left, right);
 }
 
 // Stage 3: v1 at (0,0), v3 at (1,1), v2 at (2,0).
