@@ -13,7 +13,9 @@ use Rattle.rings.proofs.Around.{After}
 use Rattle.rings.proofs.Says.{Faces}
 use Rattle.order.specs.Canonical.{Canonical}
 use Rattle.order.proofs.Contour.{Contour}
+use Rattle.order.specs.Fitting.{FitsSoFar}
 use Rattle.order.proofs.Sound.{Passes, boarded-faces, boarded-outer, passes-sound}
+use Rattle.order.proofs.Fitting.{passes-plane, passes-fits}
 use Rattle.placing.specs.Stages.{Stage, third, place, stage}
 use Rattle.placing.proofs.Steps.{Step, stage-third, stage-next, stage-placed, contours, step-at}
 use Rattle.growth.specs.Co.{ContourList}
@@ -32,6 +34,12 @@ module _ (G : List (List ℕ)) (vs : List ℕ) (T : Passes G vs) where
 
   abbrev vn : ℕ
   vn = post vs (length G)
+
+  abbrev P : Plane G (post vs 1) (post vs 2) (post vs (length G))
+  P = passes-plane G vs T
+
+  abbrev A : FitsSoFar G (post vs (length G)) vs
+  A = passes-fits G vs T
 
   -- stage n, from the one before
   last-step : (t : Stage) (k : ℕ) → 3 ≤ k → k + 1 ≡ length G → t .placed ≡ take k vs → (s : Step G t vn)
@@ -69,7 +77,7 @@ module _ (G : List (List ℕ)) (vs : List ℕ) (T : Passes G vs) where
           subst⁻¹ (ContourList G vs k) c (subst⁻¹ (λ (j : ℕ). ContourList G vs j (v1 ∷ vn ∷ v2 ∷ [])) e at-n)
 
       go : Dec (k ≡ length G) → Dec (k ≡ 3) → ContourList G vs k (stage G (take k vs) .contour)
-      go (no m) d = contour-written G vs (S .0) (S .1) k h (omega arith) (stage G (take k vs) .contour) (contours G vs T k h i)
+      go (no m) d = contour-written G vs (S .0) (S .1) k h (omega arith) (stage G (take k vs) .contour) (contours G vn vs P A k h (omega (arith, n)))
       go (yes e) (yes d) =
           let f : length G ≡ 3 = omega arith in
           last e (rw (d, f) (ap (λ (t : Stage). t .contour) (stage-third G vs (omega (arith, n)))))
@@ -77,7 +85,7 @@ module _ (G : List (List ℕ)) (vs : List ℕ) (T : Passes G vs) where
           let f : k - 1 + 1 ≡ length G = omega arith in
           let q : k ≡ k - 1 + 1 = omega arith in
           let t = stage G (take (k - 1) vs) in
-          let s = rw f at (step-at G vs T (k - 1) (omega arith) (omega arith)) in
+          let s = rw f at (step-at G vn vs P A (k - 1) (omega arith) (omega (arith, n))) in
           let placed = stage-placed G vs (k - 1) (omega arith) (omega (arith, n)) in
           let grown = ap (λ (t : Stage). t .contour) (stage-next G vs (k - 1) (omega arith) (omega (arith, n))) in
           last e (ap (λ (j : ℕ). stage G (take j vs) .contour) q ∙ grown ∙ (rw f (last-step t (k - 1) (omega arith) f placed s)))
