@@ -11,9 +11,9 @@ use lib.Dec.{ltb}
 use lib.ListN.{length, getD, take, drop, length-append, take-append-drop}
 use lib.Seq.{getD-take}
 use borrow.Author.Tests.{lt-ltb, le-ltb}
-use Rattle.words.specs.Lists.{In, mem, count, lastOf}
+use Rattle.words.specs.Lists.{In, mem, count, lastOf, Head, Adj}
 use Rattle.words.specs.Positions.{post, earlier}
-use Rattle.words.proofs.Lists.{Head, Adj, Once, in-dec, last-in}
+use Rattle.words.proofs.Lists.{Once, in-dec, last-in}
 use Rattle.words.proofs.Tests.{is-true, is-false, in-mem, mem-in, in-place, place-in, once-different, count-all}
 use Rattle.words.proofs.Positions.{in-take, take-in}
 use Rattle.rings.specs.Rings.{ring, around}

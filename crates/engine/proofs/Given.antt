@@ -9,9 +9,9 @@ use lib.Dec.{eqb}
 use lib.ListN.{length, getD, take, drop}
 use lib.Seq.{getD-take}
 use borrow.Author.Tests.{eq-eqb, ne-eqb}
-use Rattle.words.specs.Lists.{In, mem, lastOf}
+use Rattle.words.specs.Lists.{In, mem, lastOf, Head, Adj}
 use Rattle.words.specs.Positions.{post}
-use Rattle.words.proofs.Lists.{Head, Adj, Once, in-dec, adj-in-left, adj-tail, last-in}
+use Rattle.words.proofs.Lists.{Once, in-dec, adj-in-left, adj-tail, last-in}
 use Rattle.words.proofs.Tests.{is-true, is-false, in-mem, mem-in, place-in, once-different}
 use Rattle.words.proofs.Positions.{in-take}
 use Rattle.block.specs.Layout.{limit}

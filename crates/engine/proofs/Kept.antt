@@ -7,9 +7,9 @@ use native.Mathlib.Omega.{arith}
 use native.Mathlib.Decide.{ℕ-discrete, decLt}
 use lib.ListN.{length, getD, take, length-append, List·getD-append}
 use lib.Seq.{getD-at}
-use Rattle.words.specs.Lists.{In}
+use Rattle.words.specs.Lists.{In, Head}
 use Rattle.words.specs.Positions.{post}
-use Rattle.words.proofs.Lists.{Head, in-head, head-same, in-dec, in-left, in-right, in-cases, swap-in}
+use Rattle.words.proofs.Lists.{in-head, head-same, in-dec, in-left, in-right, in-cases, swap-in}
 use Rattle.words.proofs.Tests.{eqb-same, eqb-other, place-in, once-different}
 use Rattle.order.proofs.Sound.{Passes, boarded-names}
 use Rattle.placing.specs.Stages.{Stage, third, placeOver, place, stage}

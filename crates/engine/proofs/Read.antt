@@ -8,9 +8,9 @@ use native.Mathlib.Decide.{ℕ-discrete}
 use lib.ListN.{length, getD, set, take, length-set}
 use lib.Seq.{getD-set-same, getD-set-other, getD-take, length-take-le}
 use borrow.Author.Tests.{eq-eqb, ne-eqb}
-use Rattle.words.specs.Lists.{In, lastOf}
+use Rattle.words.specs.Lists.{In, lastOf, Head, Adj}
 use Rattle.words.specs.Positions.{post}
-use Rattle.words.proofs.Lists.{Head, Adj, Once, in-dec, last-in, once-length}
+use Rattle.words.proofs.Lists.{Once, in-dec, last-in, once-length}
 use Rattle.words.proofs.Tests.{place-in, once-different}
 use Rattle.words.proofs.Positions.{in-take, take-in}
 use Rattle.rings.specs.Held.{held}

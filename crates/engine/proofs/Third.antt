@@ -6,8 +6,7 @@ use mathlib.Core.List.{List, [], _∷_}
 use native.Mathlib.Omega.{arith}
 use lib.ListN.{length, getD, set, length-set}
 use lib.Seq.{getD-set-same, getD-set-other}
-use Rattle.words.specs.Lists.{In}
-use Rattle.words.proofs.Lists.{Adj}
+use Rattle.words.specs.Lists.{In, Adj}
 use Rattle.words.proofs.Tests.{eqb-same, eqb-other, place-in}
 use Rattle.rings.specs.Held.{held}
 use Rattle.order.proofs.Sound.{boarded-names}

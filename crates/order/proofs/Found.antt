@@ -10,10 +10,10 @@ use lib.Dec.{T, eqb, eqb→eq, eqb-refl, T-not, not-T}
 use lib.ListN.{length, getD, take, drop, length-drop, take-append-drop, List·getD-append}
 use lib.Seq.{drop-cons, getD-drop, getD-take, getD-append-add}
 use Rattle.words.specs.First.{numbers, first}
-use Rattle.words.specs.Lists.{In, mem, allOf, count}
+use Rattle.words.specs.Lists.{In, mem, allOf, count, Adj}
 use Rattle.words.specs.Positions.{post}
 use Rattle.words.proofs.First.{some-found, first-found}
-use Rattle.words.proofs.Lists.{Adj, Once, in-cases, adj-in-right}
+use Rattle.words.proofs.Lists.{Once, in-cases, adj-in-right}
 use Rattle.words.proofs.Tests.{holds, is-true, both, either, or-left, or-right, mem-in, in-mem, all-says, says-all, place-in, count-append, count-none, count-all, once-different}
 use Rattle.rings.specs.Rings.{ring, around}
 use Rattle.rings.proofs.Around.{around-turn}

@@ -7,9 +7,9 @@ use native.Mathlib.Omega.{arith}
 use lib.Dec.{leb→le}
 use lib.ListN.{length, take}
 use lib.Seq.{getD-take}
-use Rattle.words.specs.Lists.{In, mem, anyOf, count}
+use Rattle.words.specs.Lists.{In, mem, anyOf, count, Adj}
 use Rattle.words.specs.Positions.{post, earlier, later}
-use Rattle.words.proofs.Lists.{Adj, Once, in-left, all-there}
+use Rattle.words.proofs.Lists.{Once, in-left, all-there}
 use Rattle.words.proofs.Tests.{holds, is-true, not-not, count-found, none-says, in-mem, once-different}
 use Rattle.words.proofs.Positions.{in-later, earlier-next, post-new, earlier-or}
 use Rattle.rings.specs.Rings.{ring}

@@ -5,9 +5,9 @@ use mathlib.Core.Logic.{inl, inr, _≢_}
 use mathlib.Core.List.{List, [], _∷_, _++_}
 use native.Mathlib.Omega.{arith}
 use lib.ListN.{length, take, List·getD-append}
-use Rattle.words.specs.Lists.{In}
+use Rattle.words.specs.Lists.{In, Adj}
 use Rattle.words.specs.Positions.{post}
-use Rattle.words.proofs.Lists.{Adj, Once, adj-cases, adj-init, adj-tail, head-one, once-split, once-drop, in-right}
+use Rattle.words.proofs.Lists.{Once, adj-cases, adj-init, adj-tail, head-one, once-split, once-drop, in-right}
 use Rattle.words.proofs.Positions.{in-take, take-in, post-new}
 use Rattle.rings.specs.Plane.{Follows, OuterTriangle}
 use Rattle.rings.proofs.Around.{After, follows-after}

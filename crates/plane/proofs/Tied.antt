@@ -5,9 +5,9 @@ use mathlib.Core.Logic.{_⊎_, inl, inr, _≢_}
 use mathlib.Core.List.{List, [], _∷_, _++_}
 use native.Mathlib.Omega.{arith}
 use lib.ListN.{length, length-append, List·getD-append}
-use Rattle.words.specs.Lists.{In, lastOf}
+use Rattle.words.specs.Lists.{In, lastOf, Head, Adj}
 use Rattle.words.specs.Positions.{post}
-use Rattle.words.proofs.Lists.{Head, Adj, head-same, in-head, last-append, last-in}
+use Rattle.words.proofs.Lists.{head-same, in-head, last-append, last-in}
 use Rattle.rings.specs.Rings.{ring}
 use Rattle.rings.proofs.Says.{Faces, entry-other, entry-returned}
 use Rattle.placing.specs.Stages.{Stage, third, placeOver, place}

@@ -5,8 +5,8 @@ use mathlib.Core.Bool.{Bool, _&&_}
 use mathlib.Core.List.{List, [], _∷_, _++_, append-assoc, append-nil}
 use Prim.Native.Nat.{ℕ}
 use lib.Dec.{T, eqb, eqb→eq, eqb-refl}
-use Rattle.words.specs.Lists.{In}
-use Rattle.words.proofs.Lists.{Adj, Once, in-cases, adj-init, adj-tail, adj-one, adj-next, adj-turn, adj-right}
+use Rattle.words.specs.Lists.{In, Adj}
+use Rattle.words.proofs.Lists.{Once, in-cases, adj-init, adj-tail, adj-one, adj-next, adj-turn, adj-right}
 use Rattle.words.proofs.Tests.{both, join, either, or-left, or-right}
 use Rattle.rings.specs.Rings.{ring, around, next, allNext}
 use Rattle.rings.specs.Plane.{Follows}

@@ -6,17 +6,7 @@ use native.Mathlib.Omega.{arith}
 use native.Mathlib.Decide.{ℕ-discrete}
 use lib.ListN.{length, length-append}
 use mathlib.Core.List.{List, [], _∷_, _++_, append-assoc}
-use Rattle.words.specs.Lists.{In, lastOf}
-
--- b is the first of the list
-abbrev pub Head : List ℕ → ℕ → Type 0
-Head [] b = ⊥
-Head (y ∷ l) b = y ≡ b
-
--- b stands right after a
-abbrev pub Adj : List ℕ → ℕ → ℕ → Type 0
-Adj [] a b = ⊥
-Adj (x ∷ l) a b = ((x ≡ a) × Head l b) ⊎ Adj l a b
+use Rattle.words.specs.Lists.{In, Head, Adj, lastOf}
 
 -- no name stands twice
 abbrev pub Once : List ℕ → Type 0
