@@ -5,7 +5,7 @@ use mathlib.Core.List.{List}
 use lib.ListN.{length}
 use Rattle.block.specs.Layout.{limit}
 use Rattle.rings.specs.Held.{held, Cuts}
-use Rattle.order.specs.Held.{Ranked}
+use Rattle.order.specs.Ranked.{Ranked}
 use Rattle.order.proofs.Sound.{Passes}
 
 -- an accepted block as running code holds it: all lists' entries, where each list begins, the order and the positions

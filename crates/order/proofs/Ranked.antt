@@ -17,7 +17,7 @@ use Rattle.words.proofs.Positions.{earlier-in, in-earlier, post-suc}
 use Rattle.block.specs.Block.{badEntry}
 use Rattle.rings.specs.Rings.{around}
 use Rattle.rings.proofs.Turns.{pair-here, pair-next, around-here, around-after, around-first}
-use Rattle.order.specs.Held.{Ranked, Names, starts}
+use Rattle.order.specs.Ranked.{Ranked, NamesBelow, starts}
 use Rattle.order.proofs.Sound.{position-says, order-below, order-once}
 use Rattle.order.proofs.Starts.{starts-last}
 
@@ -65,17 +65,17 @@ module _ (vs rank : List ℕ) (room : length vs ≤ length rank) (good : (k : �
 -- ---- counting the beginnings of runs
 
 module _ (placed l : List ℕ) (b e i : ℕ) (h : b ≤ i) (k : i < e) (m : e ≤ length l) where
-  pub starts-turn : starts placed (drop (i - b) (around (slice b e l)))
+  pub starts-step : starts placed (drop (i - b) (around (slice b e l)))
       ≡ cond (not (mem placed (getD (around (slice b e l)) (i - b) 0)) && mem placed (getD (around (slice b e l)) (i - b + 1) 0)) 1 0 + starts placed (drop (i + 1 - b) (around (slice b e l)))
   unfolding starts
-  starts-turn = rw (pair-here l b e i h k m, pair-next l b e i h k m) refl
+  starts-step = rw (pair-here l b e i h k m, pair-next l b e i h k m) refl
 
 pub starts-done : (placed l : List ℕ) (b e : ℕ) → b ≤ e → e ≤ length l → starts placed (drop (e - b) (around (slice b e l))) ≡ 0
 starts-done placed l b e h m = starts-last placed (slice b e l) (e - b) (length-slice b e l m)
 
 -- ---- whether a run begins after place i
 
-module _ (ents : List ℕ) (b e i n : ℕ) (h : b ≤ i) (l : i < e) (m : e ≤ length ents) (names : Names ents b e n) where
+module _ (ents : List ℕ) (b e i n : ℕ) (h : b ≤ i) (l : i < e) (m : e ≤ length ents) (names : NamesBelow ents b e n) where
   pub after-name : getD (around (slice b e ents)) (i - b + 1) 0 < n
   after-name = go (decLt (i + 1) e)
     where
@@ -83,7 +83,7 @@ module _ (ents : List ℕ) (b e i n : ℕ) (h : b ≤ i) (l : i < e) (m : e ≤ 
       go (yes k) = rw (← (around-after ents b e i h l m k)) (names (i + 1) (omega arith) k)
       go (no k) = rw (← (around-first ents b e i h l m (omega arith))) (names b (omega arith) (omega arith))
 
-module _ (vs rank ents : List ℕ) (R : Ranked vs rank) (b e i k : ℕ) (h : b ≤ i) (l : i < e) (m : e ≤ length ents) (names : Names ents b e (length vs)) (to : k ≤ length vs)
+module _ (vs rank ents : List ℕ) (R : Ranked vs rank) (b e i k : ℕ) (h : b ≤ i) (l : i < e) (m : e ≤ length ents) (names : NamesBelow ents b e (length vs)) (to : k ≤ length vs)
     (r : Bool) (is : r ≡ ltb (getD rank (getD ents i 0) 0) k) where
   here : mem (earlier vs k) (getD (around (slice b e ents)) (i - b) 0) ≡ r
   here = rw (around-here ents b e i h l m) (sym (is ∙ before-says vs rank R (getD ents i 0) (names i h l) k to))

@@ -16,7 +16,7 @@ use Rattle.rings.proofs.Held.{held-length, held-part}
 use Rattle.rings.proofs.Turns.{part-at}
 use Rattle.rings.proofs.Says.{ring-says}
 use Rattle.order.specs.Order.{twoPlaced, oneRun}
-use Rattle.order.specs.Held.{Names, starts, fitOf}
+use Rattle.order.specs.Ranked.{NamesBelow, starts, fitOf}
 use Rattle.order.specs.declared.Fit.the-variants.{Good, Few, Broken}
 use Rattle.order.proofs.Starts.{one-run-starts, starts-one-run}
 
@@ -26,7 +26,7 @@ module _ (at ents : List ℕ) (v b e n : ℕ) (h : v < n) (size : length at ≡ 
   is = held-part at ents v b e (omega arith) eb ee
 
   -- its entries are names below n
-  pub ring-names : b ≤ e → e ≤ length ents → ringRule (held at ents) v ≡ true → Names ents b e n
+  pub ring-names : b ≤ e → e ≤ length ents → ringRule (held at ents) v ≡ true → NamesBelow ents b e n
   ring-names le m t i f g =
       let a : In (getD (slice b e ents) (i - b) 0) (slice b e ents) = place-in (slice b e ents) (i - b) (omega (arith, length-slice b e ents m)) in
       let k : In (getD ents i 0) (ring (held at ents) v) = rw is (rw (part-at ents b e i f g m) at a) in

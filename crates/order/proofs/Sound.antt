@@ -14,7 +14,7 @@ use borrow.Author.Tests.{leb-false, lt-leb, le-ltb}
 use Rattle.words.specs.Numbers.{sumOf}
 use Rattle.words.specs.Lists.{In, Different, mem}
 use Rattle.words.specs.Positions.{post, earlier}
-use Rattle.words.proofs.Lists.{in-cases, all-there, once-length}
+use Rattle.words.proofs.Lists.{in-cases, all-there, once-length, filled}
 use Rattle.words.proofs.Tests.{is-false, fails, neither, mem-in, in-mem, place-in, in-place, different-once, once-different}
 use Rattle.words.proofs.Positions.{take-in, earlier-in, post-new}
 use Rattle.block.specs.Block.{badEntry, badDegree}
@@ -219,13 +219,9 @@ module _ (G : List (List ℕ)) (vs : List ℕ) where
         two = λ k a b. says-two G vs k (post vs k) (omega arith) (C .two k a (omega arith));
         run = λ k a b.
             let W = C .two k a (omega arith) in
-            says-run G vs k (post vs k) (omega arith) (some-length (ring G (post vs k)) (W .a) (W .near-a)) (C .run k a (omega arith));
+            says-run G vs k (post vs k) (omega arith) (filled (ring G (post vs k)) (W .a) (W .near-a)) (C .run k a (omega arith));
       }
     where
-      some-length : (l : List ℕ) (a : ℕ) → In a l → 0 < length l
-      some-length [] a h = absurd h
-      some-length (x ∷ l) a h = omega arith
-
       -- a reached post has a neighbour
       some-near : (v1 u : ℕ) → Plane G v1 (post vs 2) (post vs (length G)) → u < length G → (x : ℕ) × In x (ring G u)
       some-near v1 u P h = go (P .connected u h)

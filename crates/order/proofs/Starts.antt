@@ -1,20 +1,19 @@
--- Starts of runs in a ring, counted: what a loop over its places finds, and that there is one run exactly if there is at most one start.
+-- Starts of runs in a ring, counted: there is one run exactly if there is at most one start.
 use mathlib.Core.Path.{_≡_, refl, sym, ap, _∙_}
 use mathlib.Core.Bool.{Bool, true, false, not, cond, _&&_, _||_}
 use mathlib.Core.List.{List, [], _∷_, _++_, append-assoc, append-nil}
-use Prim.Native.Nat.{ℕ, zero, suc, _+_, _≤_, _<_}
+use Prim.Native.Nat.{ℕ, _+_, _≤_, _<_}
 use native.Mathlib.Omega.{arith}
 use lib.Dec.{T, T-not, not-T}
 use lib.ListN.{length, getD, take, drop, length-append, take-append-drop}
-use lib.Seq.{drop-cons, drop-at}
-use Rattle.words.specs.First.{numbers}
-use Rattle.words.specs.Lists.{mem, anyOf, count}
+use lib.Seq.{drop-at}
+use Rattle.words.specs.Lists.{mem, anyOf}
 use Rattle.words.proofs.First.{some-true, some-found}
 use Rattle.words.proofs.Tests.{holds, is-true, either}
 use Rattle.rings.specs.Rings.{ring, around}
 use Rattle.rings.proofs.Around.{around-cut}
-use Rattle.rings.proofs.Places.{after, around-at}
-use Rattle.order.specs.Held.{starts}
+use Rattle.rings.proofs.Places.{after}
+use Rattle.order.specs.Ranked.{starts}
 use Rattle.order.specs.Order.{from, rest, leads, oneRun}
 use Rattle.order.proofs.Tests.{from-at, from-start}
 
@@ -126,24 +125,6 @@ unfoldable pub startsAt : List ℕ → List ℕ → ℕ → Bool
 startsAt placed l i = not (mem placed (getD l i 0)) && mem placed (getD l (after (length l) i) 0)
 
 module _ (placed l : List ℕ) where
-  around-length : 0 < length l → length (around l) ≡ suc (length l)
-  unfolding around
-  around-length = go l
-    where
-      go : (l : List ℕ) → 0 < length l → length (l ++ take 1 l) ≡ suc (length l)
-      go [] h = absurd (omega arith)
-      go (x ∷ l) h = omega (arith, length-append (x ∷ l) (x ∷ []))
-
-  starts-one : (i : ℕ) → i < length l → starts placed (drop i (around l)) ≡ cond (startsAt placed l i) 1 0 + starts placed (drop (suc i) (around l))
-  unfolding starts startsAt
-  starts-one i h =
-      let n : length (around l) ≡ suc (length l) = around-length (omega arith) in
-      let e = drop-cons (around l) i 0 (omega arith) in
-      let f = drop-cons (around l) (suc i) 0 (omega arith) in
-      let t = around-at l i h in
-      let g : drop (suc i) (around l) ≡ getD l (after (length l) i) 0 ∷ drop (suc (suc i)) (around l) = f ∙ ap (λ (x : ℕ). x ∷ drop (suc (suc i)) (around l)) (t .1) in
-      rw (e, t .0, g) refl
-
   starts-first : starts placed (take 1 l) ≡ 0
   unfolding starts
   starts-first = go l
@@ -155,15 +136,6 @@ module _ (placed l : List ℕ) where
   pub starts-last : (i : ℕ) → length l ≡ i → starts placed (drop i (around l)) ≡ 0
   unfolding around
   starts-last i h = rw (drop-at l (take 1 l) i h) starts-first
-
-  starts-from : (k i : ℕ) → i + k ≡ length l → starts placed (drop i (around l)) ≡ count (startsAt placed l) (numbers i k)
-  unfolding numbers count
-  starts-from zero i h = starts-last i (omega arith)
-  starts-from (suc k) i h = let e = starts-one i (omega arith) in let r = starts-from k (suc i) (omega arith) in omega arith
-
-  -- how many starts a loop over the places finds
-  pub starts-places : count (startsAt placed l) (numbers 0 (length l)) ≡ starts placed (around l)
-  starts-places = sym (starts-from (length l) 0 (omega arith))
 
 -- one run: at most one placed neighbour follows one that is not placed
 module _ (G : List (List ℕ)) (placed : List ℕ) (v : ℕ) where

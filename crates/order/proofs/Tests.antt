@@ -67,10 +67,6 @@ module _ (placed : List ℕ) where
       says-none (mem placed) (rest placed (A ++ B)) (λ a i t. n a (rest-in B a (subst (In a) (rest-after A B h) i)) (mem-in placed a t))
 
 -- a ring read from place s on has the same entries
-pub from-in : (s : ℕ) (l : List ℕ) (a : ℕ) → In a l → In a (from s l)
-unfolding from
-from-in s l a h = in-turn a (take s l) (drop s l) (rw take-append-drop h)
-
 pub from-out : (s : ℕ) (l : List ℕ) (a : ℕ) → In a (from s l) → In a l
 unfolding from
 from-out s l a h = rw take-append-drop at (in-turn a (drop s l) (take s l) h)

@@ -1,3 +1,3 @@
 pub mod Order
 pub mod Canonical
-pub mod Held
+pub mod Ranked

@@ -12,7 +12,7 @@ ghost use Rattle.block.specs.Block.{badEntry};
 ghost use Rattle.rings.specs.Rings.{around, ringRule};
 ghost use Rattle.rings.specs.Held.{held, Cuts};
 ghost use Rattle.order.specs.Order.{twoPlaced, oneRun};
-ghost use Rattle.order.specs.Held.{Ranked, Names, starts, fitOf};
+ghost use Rattle.order.specs.Ranked.{Ranked, NamesBelow, starts, fitOf};
 
 // What the order's rule finds in a position: nothing amiss; fewer than two earlier neighbours; they aren't one run.
 pub enum Fit {
@@ -51,7 +51,7 @@ pub fn is_before(rank: &[u16], a: u16, k: usize) -> bool
 
 // How many of the entries from b to e stand in positions before k.
 pub fn count_before(ents: &[u16], b: usize, e: usize, vs: &[u16], rank: &[u16], k: usize) -> usize
-    requires { ⌜ (b ≤ e) × (e ≤ length (now ents)) × Ranked (now vs) (now rank) × Names (now ents) b e (length (now vs)) × (k ≤ length (now vs)) ⌝ }
+    requires { ⌜ (b ≤ e) × (e ≤ length (now ents)) × Ranked (now vs) (now rank) × NamesBelow (now ents) b e (length (now vs)) × (k ≤ length (now vs)) ⌝ }
     ensures { λ r. ⌜ r ≡ count (mem (earlier (now (vs .entry)) k)) (slice b e (now (ents .entry))) ⌝ }
 {
     let mut c = 0;
@@ -65,7 +65,7 @@ pub fn count_before(ents: &[u16], b: usize, e: usize, vs: &[u16], rank: &[u16], 
 
 // At place i stands one that is not before position k, and after it one that is.
 fn is_start(ents: &[u16], b: usize, e: usize, i: usize, vs: &[u16], rank: &[u16], k: usize) -> bool
-    requires { ⌜ (b ≤ i) × (i < e) × (e ≤ length (now ents)) × Ranked (now vs) (now rank) × Names (now ents) b e (length (now vs)) × (k ≤ length (now vs)) ⌝ }
+    requires { ⌜ (b ≤ i) × (i < e) × (e ≤ length (now ents)) × Ranked (now vs) (now rank) × NamesBelow (now ents) b e (length (now vs)) × (k ≤ length (now vs)) ⌝ }
     ensures { λ r. ⌜ r ≡ (not (mem (earlier (now (vs .entry)) k) (getD (around (slice b e (now (ents .entry)))) (i - b) 0)) && mem (earlier (now (vs .entry)) k) (getD (around (slice b e (now (ents .entry)))) (i - b + 1) 0)) ⌝ }
 {
     if is_before(rank, ents[i], k) {
@@ -76,7 +76,7 @@ fn is_start(ents: &[u16], b: usize, e: usize, i: usize, vs: &[u16], rank: &[u16]
 
 // How many runs of earlier neighbours begin in the list from b to e, read around.
 fn count_starts(ents: &[u16], b: usize, e: usize, vs: &[u16], rank: &[u16], k: usize) -> usize
-    requires { ⌜ (b ≤ e) × (e ≤ length (now ents)) × Ranked (now vs) (now rank) × Names (now ents) b e (length (now vs)) × (k ≤ length (now vs)) ⌝ }
+    requires { ⌜ (b ≤ e) × (e ≤ length (now ents)) × Ranked (now vs) (now rank) × NamesBelow (now ents) b e (length (now vs)) × (k ≤ length (now vs)) ⌝ }
     ensures { λ r. ⌜ r ≡ starts (earlier (now (vs .entry)) k) (around (slice b e (now (ents .entry)))) ⌝ }
 {
     let mut c = 0;

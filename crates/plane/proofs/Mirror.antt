@@ -7,7 +7,7 @@ use native.Mathlib.Omega.{arith}
 use lib.ListN.{length, take, List·getD-append}
 use Rattle.words.specs.Lists.{In, Adj}
 use Rattle.words.specs.Positions.{post}
-use Rattle.words.proofs.Lists.{Once, adj-cases, adj-init, adj-tail, head-one, once-split, once-drop, in-right}
+use Rattle.words.proofs.Lists.{Once, adj-cases, adj-init, adj-tail, head-one, once-split, once-drop, in-right, in-cases}
 use Rattle.words.proofs.Positions.{in-take, take-in, post-new}
 use Rattle.rings.specs.Plane.{Follows, OuterTriangle}
 use Rattle.rings.proofs.Around.{After, follows-after}
@@ -17,7 +17,6 @@ use Rattle.order.proofs.Runs.{rings}
 use Rattle.order.proofs.Sound.{Passes, boarded-names, boarded-faces, boarded-outer}
 use Rattle.placing.specs.Stages.{Stage, third, place, stage}
 use Rattle.placing.proofs.Steps.{Step, place-placed, at-each-stage}
-use Rattle.drawing.proofs.Lists.{in-append}
 use Rattle.drawing.specs.Areas.{PositiveArea}
 use Rattle.drawing.proofs.Build.{Build}
 use Rattle.plane.proofs.Drawn.{places}
@@ -59,7 +58,7 @@ record Faced (G : List (List ℕ)) (v1 v2 vn : ℕ) (t : Stage) : Type 0 where
   faces : (u a b : ℕ) → After G u a b → In u (t .placed) → In a (t .placed) → In b (t .placed) → Accounted (tied .B) v1 v2 vn u a b
 
 last-to-first : (u : ℕ) (l : List ℕ) (v : ℕ) → In u (l ++ v ∷ []) → In u (v ∷ l)
-last-to-first u l v = in-append u l (v ∷ []) (λ i. inr i) (elim [ inl e ↦ inl e | inr z ↦ absurd z ])
+last-to-first u l v = in-cases u l (v ∷ []) (λ i. inr i) (elim [ inl e ↦ inl e | inr z ↦ absurd z ])
 
 module _ (G : List (List ℕ)) (F : Faces G) (v1 v2 vn : ℕ) (o : After G v2 v1 vn) where
   R : Rings (After G)

@@ -54,9 +54,9 @@ pub around-length : (x : ℕ) (l : List ℕ) → length (around (x ∷ l)) ≡ s
 unfolding around
 around-length x l = omega (arith, length-append (x ∷ l) (x ∷ []))
 
-pub around-in : (l : List ℕ) (j : ℕ) → j < length l → getD (around l) j 0 ≡ getD l j 0
+pub around-place : (l : List ℕ) (j : ℕ) → j < length l → getD (around l) j 0 ≡ getD l j 0
 unfolding around
-around-in l j h = List·getD-append l (take 1 l) 0 j h
+around-place l j h = List·getD-append l (take 1 l) 0 j h
 
 pub around-end : (l : List ℕ) → 0 < length l → getD (around l) (length l) 0 ≡ getD l 0 0
 unfolding around
@@ -87,29 +87,29 @@ module _ (l : List ℕ) (j : ℕ) (h : j < length l) where
   unfolding allNext
   all-next-step p = rw onward (ap (allNext p) (two (around l) j long))
 
-last-alone : (l : List ℕ) → drop (length l) (around l) ≡ take 1 l
+around-rest : (l : List ℕ) → drop (length l) (around l) ≡ take 1 l
 unfolding around
-last-alone l = drop-append-seam l (take 1 l)
+around-rest l = drop-append-seam l (take 1 l)
 
 pub next-end : (l : List ℕ) (a b : ℕ) → next a b (drop (length l) (around l)) ≡ false
 unfolding next
-next-end [] a b = rw last-alone
-next-end (x ∷ l) a b = rw last-alone
+next-end [] a b = rw around-rest
+next-end (x ∷ l) a b = rw around-rest
 
 pub all-next-end : (l : List ℕ) (p : ℕ → ℕ → Bool) → allNext p (drop (length l) (around l)) ≡ true
 unfolding allNext
-all-next-end [] p = rw last-alone
-all-next-end (x ∷ l) p = rw last-alone
+all-next-end [] p = rw around-rest
+all-next-end (x ∷ l) p = rw around-rest
 
 -- the entry at place i of a list from b to e that is read around, and the one after it
 module _ (l : List ℕ) (b e i : ℕ) (h : b ≤ i) (k : i < e) (m : e ≤ length l) where
   pub around-here : getD (around (slice b e l)) (i - b) 0 ≡ getD l i 0
-  around-here = around-in (slice b e l) (i - b) (omega (arith, length-slice b e l m)) ∙ part-at l b e i h k m
+  around-here = around-place (slice b e l) (i - b) (omega (arith, length-slice b e l m)) ∙ part-at l b e i h k m
 
   pub around-after : i + 1 < e → getD l (i + 1) 0 ≡ getD (around (slice b e l)) (i - b + 1) 0
   around-after n =
       let q : i + 1 - b ≡ i - b + 1 = omega arith in
-      sym (around-in (slice b e l) (i - b + 1) (omega (arith, length-slice b e l m)) ∙ rw q at (part-at l b e (i + 1) (omega arith) n m))
+      sym (around-place (slice b e l) (i - b + 1) (omega (arith, length-slice b e l m)) ∙ rw q at (part-at l b e (i + 1) (omega arith) n m))
 
   pub around-first : e ≤ i + 1 → getD l b 0 ≡ getD (around (slice b e l)) (i - b + 1) 0
   around-first n =

@@ -1,6 +1,6 @@
 -- Lists of names: membership, neighbours in a list, and a stretch of a list.
 use mathlib.Core.Path.{_≡_, refl, sym, ap, _∙_}
-use mathlib.Core.Logic.{_⊎_, inl, inr}
+use mathlib.Core.Logic.{inl, inr}
 use Prim.Native.Nat.{ℕ, zero, suc, _≤_, _<_}
 use native.Mathlib.Omega.{arith}
 use native.Mathlib.Decide.{ℕ-discrete}
@@ -43,6 +43,19 @@ module _ (a : ℕ) where
   cut-at (x ∷ l) (inl e) = ([], l, rw e)
   cut-at (x ∷ l) (inr h) = let t = cut-at l h in (x ∷ t .0, t .1, ap (λ (r : List ℕ). x ∷ r) (t .2))
 
+pub filled : (l : List ℕ) (a : ℕ) → In a l → 0 < length l
+filled [] a h = absurd h
+filled (x ∷ l) a h = omega arith
+
+-- a stretch p, M, q of a list has members of the list
+pub in-run : (u : ℕ) (L : List ℕ) (p : ℕ) (M : List ℕ) (q : ℕ) (R : List ℕ) → In u (p ∷ (M ++ q ∷ [])) → In u (L ++ p ∷ (M ++ q ∷ R))
+in-run u L p M q R (inl e) = in-right u L _ (inl e)
+in-run u L p M q R (inr h) = in-right u L _ (inr (in-cases u M (q ∷ []) (in-left u M (q ∷ R)) last h))
+  where
+    last : In u (q ∷ []) → In u (M ++ q ∷ R)
+    last (inl e) = in-right u M (q ∷ R) (inl e)
+    last (inr i) = absurd i
+
 module _ (a b : ℕ) where
   pub adj-in-left : (l : List ℕ) → Adj l a b → In a l
   adj-in-left [] h = absurd h
@@ -63,6 +76,13 @@ module _ (a b : ℕ) where
   adj-left [] p Z (inr h) = absurd h
   adj-left (x ∷ X) p Z (inl h) = inl (h .0, head-same b X p [] Z (h .1))
   adj-left (x ∷ X) p Z (inr h) = inr (adj-left X p Z h)
+
+  pub adj-more : (l : List ℕ) (z : ℕ) → Adj l a b → Adj (l ++ z ∷ []) a b
+  adj-more [] z h = absurd h
+  adj-more (x ∷ []) z (inl h) = absurd (h .1)
+  adj-more (x ∷ []) z (inr h) = absurd h
+  adj-more (x ∷ y ∷ l) z (inl h) = inl h
+  adj-more (x ∷ y ∷ l) z (inr h) = inr (adj-more (y ∷ l) z h)
 
   -- neighbours in a list that is cut at p (and p stays in both parts)
   pub adj-cases : {C : Type 0} (X : List ℕ) (p : ℕ) (Z : List ℕ) → (Adj (X ++ p ∷ []) a b → C) → (Adj (p ∷ Z) a b → C) → Adj (X ++ p ∷ Z) a b → C

@@ -9,8 +9,8 @@ use lib.Seq.{slice}
 use Rattle.words.specs.Positions.{earlier}
 use Rattle.rings.specs.Rings.{around}
 use Rattle.rings.proofs.Turns.{around-start}
-use Rattle.order.specs.Held.{starts}
-use Rattle.order.proofs.Ranked.{starts-turn, starts-done}
+use Rattle.order.specs.Ranked.{starts}
+use Rattle.order.proofs.Ranked.{starts-step, starts-done}
 use borrow.Author.Needs.{needs}
 
 abbrev Inv-loop : tie.InvT-loop
@@ -45,7 +45,7 @@ loop-again : tie.Need-loop-again Inv-loop μ-loop
 loop-again c =
     let v = c .before .before .before .loop in
     let a = c .before .before .before .before .before .before .before .args in
-    omega (arith, starts-turn (earlier (a .vs .now) (a .k)) (a .ents .now) (a .b) (a .e) (v .i) (omega arith) (omega arith) (omega arith), c .one-if .ensures, ap {B = ℕ} (λ (z : Bool). cond z 1 0) (c .before .is-start .ensures))
+    omega (arith, starts-step (earlier (a .vs .now) (a .k)) (a .ents .now) (a .b) (a .e) (v .i) (omega arith) (omega arith) (omega arith), c .one-if .ensures, ap {B = ℕ} (λ (z : Bool). cond z 1 0) (c .before .is-start .ensures))
 
 returns : tie.Need-returns Inv-loop μ-loop
 returns c =

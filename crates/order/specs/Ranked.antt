@@ -16,8 +16,8 @@ pub record Ranked (vs rank : List ℕ) : Type 0 where
   pub position : (k : ℕ) → 1 ≤ k → k ≤ length vs → getD rank (post vs k) 0 ≡ k
 
 -- the entries from b to e are names below n
-abbrev pub Names : List ℕ → ℕ → ℕ → ℕ → Type 0
-Names ents b e n = (i : ℕ) → b ≤ i → i < e → getD ents i 0 < n
+abbrev pub NamesBelow : List ℕ → ℕ → ℕ → ℕ → Type 0
+NamesBelow ents b e n = (i : ℕ) → b ≤ i → i < e → getD ents i 0 < n
 
 -- how often a placed entry stands right after one that is not placed
 unfoldable pub starts : List ℕ → List ℕ → ℕ

@@ -1,15 +1,15 @@
--- What a loop over a ring's places finds: how many runs there are, where the run begins, how long it is, and its entries.
+-- Where a run begins, and how long it is: what a loop over a ring's places finds.
 use mathlib.Core.Path.{_≡_, refl, sym, ap, _∙_, subst}
 use mathlib.Core.Logic.{inl, inr}
 use mathlib.Core.Bool.{true, not}
 use mathlib.Core.List.{List, [], _∷_, _++_, append-assoc, append-nil}
-use Prim.Native.Nat.{ℕ, suc, _+_, _-_, _≤_, _<_}
+use Prim.Native.Nat.{ℕ, suc, _+_, _-_, _<_}
 use native.Mathlib.Omega.{arith}
 use native.Mathlib.Decide.{decLt}
 use lib.Dec.{T, eqb, eqb→eq, eqb-refl, T-not, not-T}
 use lib.ListN.{length, getD, take, drop, length-drop, take-append-drop, List·getD-append}
-use lib.Seq.{drop-cons, getD-drop, getD-take, getD-append-add}
-use Rattle.words.specs.First.{numbers, first}
+use lib.Seq.{drop-cons, getD-drop}
+use Rattle.words.specs.First.{first}
 use Rattle.words.specs.Lists.{In, mem, allOf, count, Adj}
 use Rattle.words.specs.Positions.{post}
 use Rattle.words.proofs.First.{some-found, first-found}
@@ -20,17 +20,9 @@ use Rattle.rings.proofs.Around.{around-turn}
 use Rattle.rings.proofs.Places.{after, after-inside, after-end, place-around}
 use Rattle.order.specs.Order.{from, lead, rest, leads, oneRun, begins, run}
 use Rattle.order.proofs.Tests.{lead-rest, lead-placed, lead-all, leads-says, says-leads, from-out, begins-says, says-begins}
-use Rattle.order.proofs.Starts.{startsAt, starts-places, one-run-starts, starts-one-run}
+use Rattle.order.proofs.Starts.{startsAt}
 
--- ---- how many runs
-module _ (G : List (List ℕ)) (placed : List ℕ) (v : ℕ) where
-  pub one-run-count : oneRun G placed v ≡ true → count (startsAt placed (ring G v)) (numbers 0 (length (ring G v))) ≤ 1
-  one-run-count t = rw (starts-places placed (ring G v)) (one-run-starts G placed v t)
-
-  pub count-one-run : 0 < length (ring G v) → count (startsAt placed (ring G v)) (numbers 0 (length (ring G v))) ≤ 1 → oneRun G placed v ≡ true
-  count-one-run h c = starts-one-run G placed v h (rw (starts-places placed (ring G v)) at c)
-
--- ---- how long the run is, and its entries
+-- ---- how long the run is
 module _ (placed : List ℕ) where
   -- where the placed entries lead, they are as many as are placed
   pub lead-length : (l : List ℕ) → T (leads placed l) → length (lead placed l) ≡ count (mem placed) l
@@ -48,21 +40,10 @@ module _ (placed : List ℕ) where
   from-count s l =
       omega (arith, ap (count (mem placed)) (take-append-drop s l), count-append (mem placed) (take s l) (drop s l), count-append (mem placed) (drop s l) (take s l))
 
-  -- they are the list's first entries
-  pub lead-at : (l : List ℕ) (i : ℕ) → i < length (lead placed l) → getD (lead placed l) i 0 ≡ getD l i 0
-  lead-at l i h = sym (List·getD-append (lead placed l) (rest placed l) 0 i h) ∙ ap (λ (r : List ℕ). getD r i 0) (lead-rest placed l)
-
--- a ring read from place s on, by places: around its end
+-- a ring read from place s on, by places, as far as its end
 pub from-inside : (l : List ℕ) (s i : ℕ) → s + i < length l → getD (from s l) i 0 ≡ getD l (s + i) 0
 unfolding from
 from-inside l s i h = List·getD-append (drop s l) (take s l) 0 i (omega (arith, length-drop s l)) ∙ getD-drop s l i 0
-
-pub from-beyond : (l : List ℕ) (s i : ℕ) → s ≤ length l → i < length l → length l ≤ s + i → getD (from s l) i 0 ≡ getD l (s + i - length l) 0
-unfolding from
-from-beyond l s i h k b =
-    let j = s + i - length l in
-    let e : i ≡ length (drop s l) + j = omega (arith, length-drop s l) in
-    ap (λ (m : ℕ). getD (drop s l ++ take s l) m 0) e ∙ getD-append-add (drop s l) (take s l) j 0 ∙ getD-take s l j 0 (omega arith)
 
 -- ---- where the run begins
 after-below : (d i : ℕ) → i < d → after d i < d
