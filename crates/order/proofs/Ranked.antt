@@ -12,7 +12,7 @@ use borrow.Author.Tests.{lt-ltb, le-ltb}
 use Rattle.words.specs.Lists.{In, mem}
 use Rattle.words.specs.Positions.{post, earlier, Earlier}
 use Rattle.words.proofs.Lists.{all-there}
-use Rattle.words.proofs.Tests.{is-true, is-false, mem-in, in-mem, in-place, different-once}
+use Rattle.words.proofs.Tests.{mem-true, mem-false, in-place, different-once}
 use Rattle.words.proofs.Positions.{earlier-in, in-earlier, post-suc}
 use Rattle.block.specs.Block.{badEntry}
 use Rattle.rings.specs.Rings.{around}
@@ -27,9 +27,11 @@ module _ (vs rank : List ℕ) (R : Ranked vs rank) (a : ℕ) (h : a < length vs)
   before-says = go (decLt (getD rank a 0) k)
     where
       go : Dec (getD rank a 0 < k) → ltb (getD rank a 0) k ≡ mem (earlier vs k) a
-      go (yes l) = lt-ltb (getD rank a 0) k l ∙ sym (is-true (mem (earlier vs k) a) (in-mem (earlier vs k) a (earlier-in vs k a (omega arith) (getD rank a 0, R .name a h .0, l, R .name a h .2))))
+      go (yes l) =
+          lt-ltb (getD rank a 0) k l
+          ∙ sym (mem-true (earlier vs k) a (earlier-in vs k a (omega arith) (getD rank a 0, R .name a h .0, l, R .name a h .2)))
       go (no n) =
-          le-ltb (getD rank a 0) k (omega arith) ∙ sym (is-false (mem (earlier vs k) a) (λ t. over (in-earlier vs k a (mem-in (earlier vs k) a t))))
+          le-ltb (getD rank a 0) k (omega arith) ∙ sym (mem-false (earlier vs k) a (λ t. over (in-earlier vs k a t)))
         where
           over : Earlier vs k a → ⊥
           over e = n (rw (← (e .3), R .position (e .0) (e .1) (omega (arith, e .2))) (e .2))
@@ -50,14 +52,16 @@ module _ (vs rank : List ℕ) (room : length vs ≤ length rank) (good : (k : �
       go : Dec (j ≡ k) → getD (set rank a k) (post vs j) 0 ≡ j
       go (yes e) = rw (is, e) (getD-set-same rank (post vs k) k 0 (omega (arith, says .0)))
       go (no n) =
-          rw is (getD-set-other rank (post vs k) (post vs j) k 0 (λ e. says .1 (earlier-in vs k (post vs k) (omega arith) (j, h, omega arith, e)))) ∙ r j h (omega arith)
+          rw is (getD-set-other rank (post vs k) (post vs j) k 0 (λ e. says .1 (earlier-in vs k (post vs k) (omega arith) (j, h, omega arith, e))))
+          ∙ r j h (omega arith)
 
   pub ranked : RankedTo vs rank (length vs + 1) → Ranked vs rank
   ranked r = record { room = room; name = named; position = λ k h i. r k h (omega arith) }
     where
       named : (a : ℕ) → a < length vs → (1 ≤ getD rank a 0) × (getD rank a 0 ≤ length vs) × (post vs (getD rank a 0) ≡ a)
       named a h =
-          let t = in-place vs a (all-there (length vs) vs (different-once vs (order-once (length vs) vs good)) (order-below (length vs) vs good) (omega arith) a h) in
+          let once = different-once vs (order-once (length vs) vs good) in
+          let t = in-place vs a (all-there (length vs) vs once (order-below (length vs) vs good) (omega arith) a h) in
           let p : post vs (suc (t .0)) ≡ a = post-suc vs (t .0) ∙ t .2 in
           let e : getD rank a 0 ≡ suc (t .0) = rw p at (r (suc (t .0)) (omega arith) (omega (arith, t .1))) in
           (omega arith, omega (arith, t .1), rw e p)
@@ -66,7 +70,8 @@ module _ (vs rank : List ℕ) (room : length vs ≤ length rank) (good : (k : �
 
 module _ (placed l : List ℕ) (b e i : ℕ) (h : b ≤ i) (k : i < e) (m : e ≤ length l) where
   pub starts-step : starts placed (drop (i - b) (around (slice b e l)))
-      ≡ cond (not (mem placed (getD (around (slice b e l)) (i - b) 0)) && mem placed (getD (around (slice b e l)) (i - b + 1) 0)) 1 0 + starts placed (drop (i + 1 - b) (around (slice b e l)))
+      ≡ cond (not (mem placed (getD (around (slice b e l)) (i - b) 0)) && mem placed (getD (around (slice b e l)) (i - b + 1) 0)) 1 0
+      + starts placed (drop (i + 1 - b) (around (slice b e l)))
   unfolding starts
   starts-step = rw (pair-here l b e i h k m, pair-next l b e i h k m) refl
 
@@ -83,8 +88,8 @@ module _ (ents : List ℕ) (b e i n : ℕ) (h : b ≤ i) (l : i < e) (m : e ≤ 
       go (yes k) = rw (← (around-after ents b e i h l m k)) (names (i + 1) (omega arith) k)
       go (no k) = rw (← (around-first ents b e i h l m (omega arith))) (names b (omega arith) (omega arith))
 
-module _ (vs rank ents : List ℕ) (R : Ranked vs rank) (b e i k : ℕ) (h : b ≤ i) (l : i < e) (m : e ≤ length ents) (names : NamesBelow ents b e (length vs)) (to : k ≤ length vs)
-    (r : Bool) (is : r ≡ ltb (getD rank (getD ents i 0) 0) k) where
+module _ (vs rank ents : List ℕ) (R : Ranked vs rank) (b e i k : ℕ) (h : b ≤ i) (l : i < e) (m : e ≤ length ents) (names : NamesBelow ents b e (length vs))
+    (to : k ≤ length vs) (r : Bool) (is : r ≡ ltb (getD rank (getD ents i 0) 0) k) where
   here : mem (earlier vs k) (getD (around (slice b e ents)) (i - b) 0) ≡ r
   here = rw (around-here ents b e i h l m) (sym (is ∙ before-says vs rank R (getD ents i 0) (names i h l) k to))
 

@@ -11,8 +11,8 @@ use borrow.Author.Tests.{le-leb, lt-leb}
 use Rattle.words.specs.Lists.{In, mem, count}
 use Rattle.words.proofs.Tests.{is-true, is-false, count-length, place-in}
 use Rattle.rings.specs.Rings.{ring, around, ringRule}
-use Rattle.rings.specs.Held.{held}
-use Rattle.rings.proofs.Held.{held-length, held-part}
+use Rattle.rings.specs.Held.{held, Cuts}
+use Rattle.rings.proofs.Held.{held-length, held-part, part-within}
 use Rattle.rings.proofs.Turns.{part-at}
 use Rattle.rings.proofs.Says.{ring-says}
 use Rattle.order.specs.Order.{twoPlaced, oneRun}
@@ -26,11 +26,14 @@ module _ (at ents : List ℕ) (v b e n : ℕ) (h : v < n) (size : length at ≡ 
   is = held-part at ents v b e (omega arith) eb ee
 
   -- its entries are names below n
-  pub ring-names : b ≤ e → e ≤ length ents → ringRule (held at ents) v ≡ true → NamesBelow ents b e n
-  ring-names le m t i f g =
+  ring-names : e ≤ length ents → ringRule (held at ents) v ≡ true → NamesBelow ents b e n
+  ring-names m t i f g =
       let a : In (getD (slice b e ents) (i - b) 0) (slice b e ents) = place-in (slice b e ents) (i - b) (omega (arith, length-slice b e ents m)) in
       let k : In (getD ents i 0) (ring (held at ents) v) = rw is (rw (part-at ents b e i f g m) at a) in
       omega (arith, ring-says (held at ents) v t .below (getD ents i 0) k, held-length at ents)
+
+  pub ring-part : Cuts at ents → ringRule (held at ents) v ≡ true → (b ≤ e) × (e ≤ length ents) × NamesBelow ents b e n
+  ring-part C t = let w = part-within at ents C v b e (omega arith) eb ee in (w .0, w .1, ring-names (w .1) t)
 
   module _ (P : List ℕ) (c : ℕ) (ec : c ≡ count (mem P) (slice b e ents)) where
     two-is : twoPlaced (held at ents) P v ≡ leb 2 c
@@ -48,7 +51,10 @@ module _ (at ents : List ℕ) (v b e n : ℕ) (h : v < n) (size : length at ≡ 
       one-yes few = starts-one-run (held at ents) P v filled (rw (is, ← es) few)
 
       one-no : 1 < s → oneRun (held at ents) P v ≡ false
-      one-no more = is-false (oneRun (held at ents) P v) (λ t. omega (arith, es, rw is at (one-run-starts (held at ents) P v (is-true (oneRun (held at ents) P v) t))))
+      one-no more =
+          is-false (oneRun (held at ents) P v) (λ t.
+          let few = rw is at (one-run-starts (held at ents) P v (is-true (oneRun (held at ents) P v) t)) in
+          omega (arith, es, few))
 
       pub rule-broken : 1 < s → Broken ≡ fitOf (twoPlaced (held at ents) P v) (oneRun (held at ents) P v)
       rule-broken more = rw (two-is, le-leb 2 c enough, one-no more) refl

@@ -15,14 +15,15 @@ use Rattle.words.specs.Numbers.{sumOf}
 use Rattle.words.specs.Lists.{In, Different, mem}
 use Rattle.words.specs.Positions.{post, earlier}
 use Rattle.words.proofs.Lists.{in-cases, all-there, once-length, filled}
-use Rattle.words.proofs.Tests.{is-false, fails, neither, mem-in, in-mem, place-in, in-place, different-once, once-different}
+use Rattle.words.proofs.Tests.{fails, neither, in-mem, mem-false, place-in, in-place, different-once, once-different}
 use Rattle.words.proofs.Positions.{take-in, earlier-in, post-new}
 use Rattle.block.specs.Block.{badEntry, badDegree}
 use Rattle.rings.specs.Rings.{ring, around, ringRule, triangleRule, outerRule}
 use Rattle.rings.specs.Plane.{Reached, Plane}
 use Rattle.rings.specs.Plane.Reached.{here, along}
 use Rattle.rings.proofs.Around.{After, follows-after, around-in}
-use Rattle.rings.proofs.Says.{Faces, says-ring, triangle-says, says-triangle, outer-says, says-outer, faces-tested, faces-plane, entry-below, entry-other, entry-returned, ring-once}
+use Rattle.rings.proofs.Says.{Faces, says-ring, triangle-says, says-triangle, outer-says, says-outer}
+use Rattle.rings.proofs.Says.{faces-tested, faces-plane, entry-below, entry-other, entry-returned, ring-once}
 use Rattle.order.specs.Order.{twoPlaced, oneRun}
 use Rattle.order.specs.Canonical.{Two, Canonical}
 use Rattle.order.proofs.Tests.{two-says, says-two, run-says, says-run, later-says}
@@ -58,7 +59,8 @@ module _ (n : ℕ) (vs : List ℕ) where
   pub says-position : (k : ℕ) → post vs k < n → ¬ (In (post vs k) (earlier vs k)) → badEntry n vs k ≡ false
   unfolding badEntry
   says-position k h i =
-      false-or (leb n (post vs k)) (mem (earlier vs k) (post vs k)) (lt-leb n (post vs k) h) (is-false (mem (earlier vs k) (post vs k)) (λ t. i (mem-in (earlier vs k) (post vs k) t)))
+      false-or (leb n (post vs k)) (mem (earlier vs k) (post vs k)) (lt-leb n (post vs k) h)
+      (mem-false (earlier vs k) (post vs k) i)
 
   module _ (good : (k : ℕ) → 1 ≤ k → k ≤ length vs → badEntry n vs k ≡ false) where
     at : (i : ℕ) → i < length vs → (getD vs i 0 < n) × ¬ (In (getD vs i 0) (take i vs))
@@ -90,12 +92,15 @@ module _ (G : List (List ℕ)) (u : ℕ) where
   unfolding badDegree
   says-degree a b =
       let e = degree-is in
-      false-or (ltb (getD (map length G) u 0) 2) (ltb (length G - 1) (getD (map length G) u 0)) (le-ltb (getD (map length G) u 0) 2 (omega arith)) (le-ltb (length G - 1) (getD (map length G) u 0) (omega arith))
+      false-or (ltb (getD (map length G) u 0) 2) (ltb (length G - 1) (getD (map length G) u 0)) (le-ltb (getD (map length G) u 0) 2 (omega arith))
+      (le-ltb (length G - 1) (getD (map length G) u 0) (omega arith))
 
   -- a ring of different names below n, other than u, has at most n-1 entries
   pub degree-most : Faces G → u < length G → length (ring G u) ≤ length G - 1
   degree-most F h =
-      let t = once-length (length G) (u ∷ ring G u) ((λ i. entry-other G F u u i refl), ring-once G F u h) (λ a. elim [ inl e ↦ rw e h | inr i ↦ entry-below G F u a i ]) in
+      let t =
+      once-length (length G) (u ∷ ring G u) ((λ i. entry-other G F u u i refl), ring-once G F u h)
+      (λ a. elim [ inl e ↦ rw e h | inr i ↦ entry-below G F u a i ]) in
       omega arith
 
   -- and one that has an entry has two: a ring of one entry a would put a into its own ring
@@ -111,8 +116,10 @@ module _ (G : List (List ℕ)) (u : ℕ) where
       go (a ∷ b ∷ l) e h = omega arith
 
 -- ---- every post is reached from v1
-module _ (G : List (List ℕ)) (vs : List ℕ) (F : Faces G) (bottom : In (post vs 2) (ring G (post vs 1))) (two : (k : ℕ) → 3 ≤ k → k ≤ length vs → Two G vs k (post vs k)) where
-  reached-by : (k : ℕ) → k < length vs → ((a : ℕ) → In a (take k vs) → Reached G (post vs 1) a) → Two G vs (suc k) (post vs (suc k)) → Reached G (post vs 1) (getD vs k 0)
+module _ (G : List (List ℕ)) (vs : List ℕ) (F : Faces G) (bottom : In (post vs 2) (ring G (post vs 1)))
+    (two : (k : ℕ) → 3 ≤ k → k ≤ length vs → Two G vs k (post vs k)) where
+  reached-by : (k : ℕ) → k < length vs → ((a : ℕ) → In a (take k vs) → Reached G (post vs 1) a) → Two G vs (suc k) (post vs (suc k))
+      → Reached G (post vs 1) (getD vs k 0)
   reached-by k h r W =
       let e : suc k - 1 ≡ k = omega arith in
       let i : In (W .a) (take k vs) = rw e at (earlier-in vs (suc k) (W .a) (omega arith) (W .earlier-a)) in

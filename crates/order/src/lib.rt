@@ -23,7 +23,8 @@ pub enum Fit {
 
 // rank[a] becomes the position of the name a.
 pub fn ranks(vs: &[u16], rank: &mut [u16])
-    requires { ⌜ (length (now vs) ≤ limit) × (length (now vs) ≤ length (now rank)) × ((k : ℕ) → 1 ≤ k → k ≤ length (now vs) → badEntry (length (now vs)) (now vs) k ≡ false) ⌝ }
+    requires { ⌜ (length (now vs) ≤ limit) × (length (now vs) ≤ length (now rank))
+        × ((k : ℕ) → 1 ≤ k → k ≤ length (now vs) → badEntry (length (now vs)) (now vs) k ≡ false) ⌝ }
     ensures { λ r. ⌜ Ranked (now (vs .entry)) (now (rank .exit)) ⌝ }
 {
     let mut k = 1;
@@ -65,8 +66,10 @@ pub fn count_before(ents: &[u16], b: usize, e: usize, vs: &[u16], rank: &[u16], 
 
 // At place i stands one that is not before position k, and after it one that is.
 fn is_start(ents: &[u16], b: usize, e: usize, i: usize, vs: &[u16], rank: &[u16], k: usize) -> bool
-    requires { ⌜ (b ≤ i) × (i < e) × (e ≤ length (now ents)) × Ranked (now vs) (now rank) × NamesBelow (now ents) b e (length (now vs)) × (k ≤ length (now vs)) ⌝ }
-    ensures { λ r. ⌜ r ≡ (not (mem (earlier (now (vs .entry)) k) (getD (around (slice b e (now (ents .entry)))) (i - b) 0)) && mem (earlier (now (vs .entry)) k) (getD (around (slice b e (now (ents .entry)))) (i - b + 1) 0)) ⌝ }
+    requires { ⌜ (b ≤ i) × (i < e) × (e ≤ length (now ents)) × Ranked (now vs) (now rank)
+        × NamesBelow (now ents) b e (length (now vs)) × (k ≤ length (now vs)) ⌝ }
+    ensures { λ r. ⌜ r ≡ (not (mem (earlier (now (vs .entry)) k) (getD (around (slice b e (now (ents .entry)))) (i - b) 0))
+        && mem (earlier (now (vs .entry)) k) (getD (around (slice b e (now (ents .entry)))) (i - b + 1) 0)) ⌝ }
 {
     if is_before(rank, ents[i], k) {
         return false;
@@ -90,8 +93,11 @@ fn count_starts(ents: &[u16], b: usize, e: usize, vs: &[u16], rank: &[u16], k: u
 
 // What the order's rule finds in position k.
 pub fn rule_at(ents: &[u16], at: &[u16], vs: &[u16], rank: &[u16], k: usize) -> Fit
-    requires { ⌜ Cuts (now at) (now ents) × (length (now at) ≡ length (now vs) + 1) × Ranked (now vs) (now rank) × ((u : ℕ) → u < length (now vs) → ringRule (held (now at) (now ents)) u ≡ true) × (1 ≤ k) × (k ≤ length (now vs)) × (post (now vs) k < length (now vs)) ⌝ }
-    ensures { λ r. ⌜ r ≡ fitOf (twoPlaced (held (now (at .entry)) (now (ents .entry))) (earlier (now (vs .entry)) k) (post (now (vs .entry)) k)) (oneRun (held (now (at .entry)) (now (ents .entry))) (earlier (now (vs .entry)) k) (post (now (vs .entry)) k)) ⌝ }
+    requires { ⌜ Cuts (now at) (now ents) × (length (now at) ≡ length (now vs) + 1) × Ranked (now vs) (now rank)
+        × ((u : ℕ) → u < length (now vs) → ringRule (held (now at) (now ents)) u ≡ true)
+        × (1 ≤ k) × (k ≤ length (now vs)) × (post (now vs) k < length (now vs)) ⌝ }
+    ensures { λ r. ⌜ r ≡ fitOf (twoPlaced (held (now (at .entry)) (now (ents .entry))) (earlier (now (vs .entry)) k) (post (now (vs .entry)) k))
+        (oneRun (held (now (at .entry)) (now (ents .entry))) (earlier (now (vs .entry)) k) (post (now (vs .entry)) k)) ⌝ }
 {
     let v = words::number(vs[k - 1]);
     let b = words::number(at[v]);

@@ -39,7 +39,8 @@ unfolding next
 next-says a b [] t = t
 next-says a b (x ∷ []) t = absurd t
 next-says a b (x ∷ y ∷ l) t =
-    either (eqb x a && eqb y b) (next a b (y ∷ l)) (λ e. let s = both (eqb x a) (eqb y b) e in inl (eqb→eq x a (s .0), eqb→eq y b (s .1))) (λ m. inr (next-says a b (y ∷ l) m)) t
+    either (eqb x a && eqb y b) (next a b (y ∷ l)) (λ e. let s = both (eqb x a) (eqb y b) e in inl (eqb→eq x a (s .0), eqb→eq y b (s .1)))
+    (λ m. inr (next-says a b (y ∷ l) m)) t
 
 pub says-next : (a b : ℕ) (l : List ℕ) → Adj l a b → T (next a b l)
 unfolding next

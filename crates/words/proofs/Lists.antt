@@ -98,7 +98,8 @@ module _ (a b : ℕ) where
   once-next (x ∷ X) Z o (inr h) = once-next X Z (o .1) h
 
 -- a list whose neighbours are neighbours in W, where nobody stands twice, is a stretch of W
-pub stretch : (W : List ℕ) → Once W → (M X : List ℕ) (p : ℕ) (Z : List ℕ) → W ≡ X ++ p ∷ Z → ((a b : ℕ) → Adj (p ∷ M) a b → Adj W a b) → (Y : List ℕ) × (Z ≡ M ++ Y)
+pub stretch : (W : List ℕ) → Once W → (M X : List ℕ) (p : ℕ) (Z : List ℕ) → W ≡ X ++ p ∷ Z → ((a b : ℕ) → Adj (p ∷ M) a b → Adj W a b)
+    → (Y : List ℕ) × (Z ≡ M ++ Y)
 stretch W o [] X p Z e h = (Z, refl)
 stretch W o (m ∷ M) X p Z e h = go (stretch W o M) Z e (once-next p m X Z (rw e at o) (rw e at (h p m (inl (refl, refl)))))
   where

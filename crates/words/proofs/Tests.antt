@@ -189,7 +189,8 @@ once-count (x ∷ l) o a (inr h) = count-not (eqb a) x l (λ t. o .0 (rw (← eq
 pub count-once : (l : List ℕ) → ((a : ℕ) → In a l → count (eqb a) l ≡ 1) → Once l
 count-once [] h = tt
 count-once (x ∷ l) h =
-    let n : ¬ (In x l) = λ i. let c = h x (inl refl) in let d = count-here (eqb x) x l (eqb-refl x) in let e = count-some (eqb x) l x i (eqb-refl x) in omega arith in
+    let n : ¬ (In x l) =
+    λ i. omega (arith, h x (inl refl), count-here (eqb x) x l (eqb-refl x), count-some (eqb x) l x i (eqb-refl x)) in
     (n, count-once l (λ a i. sym (count-not (eqb a) x l (λ t. n (rw (eqb→eq a x t) at i))) ∙ h a (inr i)))
 
 -- an entry has a place

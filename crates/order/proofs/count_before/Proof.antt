@@ -13,7 +13,8 @@ use Rattle.order.proofs.Ranked.{before-says}
 use borrow.Author.Needs.{needs}
 
 abbrev Inv-loop : tie.InvT-loop
-Inv-loop ents b e vs rank k c₀ i₀ c i = (b ≤ i) × (i ≤ e) × (c + count (mem (earlier vs k)) (slice i e ents) ≡ count (mem (earlier vs k)) (slice b e ents)) × (c ≤ i)
+Inv-loop ents b e vs rank k c₀ i₀ c i =
+    (b ≤ i) × (i ≤ e) × (c + count (mem (earlier vs k)) (slice i e ents) ≡ count (mem (earlier vs k)) (slice b e ents)) × (c ≤ i)
 
 abbrev μ-loop : tie.MeasureT-loop
 μ-loop ents b e vs rank k c₀ i₀ c i = e - i
@@ -46,18 +47,24 @@ loop-less c = search needs
 
 loop-again : tie.Need-loop-again Inv-loop μ-loop
 loop-again c =
-    let entry = c .before .before .before .before .before .before .before .before in
-    let v = c .before .before .before .before .loop in
+    let turn = c .before .before .before .before in
+    let entry = turn .before .before .before .before in
+    let v = turn .loop in
     let a = entry .args in
-    let s : c .before .is-before .result ≡ mem (earlier (a .vs .now) (a .k)) (getD (a .ents .now) (v .i) 0) = c .before .is-before .ensures ∙ before-says (a .vs .now) (a .rank .now) (entry .pre .2) (getD (a .ents .now) (v .i) 0) (entry .pre .3 (v .i) (omega arith) (omega arith)) (a .k) (entry .pre .4) in
-    omega (arith, count-step (a .ents .now) (v .i) (a .e) (omega arith) (omega arith) (mem (earlier (a .vs .now) (a .k))), c .one-if .ensures, ap {B = ℕ} (λ (z : Bool). cond z 1 0) s)
+    let vs = a .vs .now in
+    let x = getD (a .ents .now) (v .i) 0 in
+    let says = before-says vs (a .rank .now) (entry .pre .2) x (entry .pre .3 (v .i) (omega arith) (omega arith)) (a .k) (entry .pre .4) in
+    let s : c .before .is-before .result ≡ mem (earlier vs (a .k)) x = c .before .is-before .ensures ∙ says in
+    let step = count-step (a .ents .now) (v .i) (a .e) (omega arith) (omega arith) (mem (earlier vs (a .k))) in
+    omega (arith, step, c .one-if .ensures, ap {B = ℕ} (λ (z : Bool). cond z 1 0) s)
 
 returns : tie.Need-returns Inv-loop μ-loop
 returns c =
     let v = c .before .loop in
     let a = c .before .before .before .before .before .args in
+    let p = mem (earlier (a .vs .now) (a .k)) in
     let q : v .i ≡ a .e = omega arith in
-    let z : count (mem (earlier (a .vs .now) (a .k))) (slice (v .i) (a .e) (a .ents .now)) ≡ 0 = rw q (count-end (a .ents .now) (a .e) (mem (earlier (a .vs .now) (a .k)))) in
+    let z : count p (slice (v .i) (a .e) (a .ents .now)) ≡ 0 = rw q (count-end (a .ents .now) (a .e) p) in
     omega arith
 
 pub count-before-spec : {M : Type 1} → statement M

@@ -18,7 +18,11 @@ is-before-requires c κs =
 returns : tie.Need-returns
 returns c =
     let entry = c .before .before .before .before .before .before in
-    start-not (entry .args .vs .now) (entry .args .rank .now) (entry .args .ents .now) (entry .pre .3) (entry .args .b) (entry .args .e) (entry .args .i) (entry .args .k) (entry .pre .0) (entry .pre .1) (entry .pre .2) (entry .pre .4) (entry .pre .5) (c .before .is-before .result) (c .before .is-before .ensures) (c .if1 .taken) _
+    let a = entry .args in
+    let pre = entry .pre in
+    let is-before = c .before .is-before in
+    start-not (a .vs .now) (a .rank .now) (a .ents .now) (pre .3) (a .b) (a .e) (a .i) (a .k) (pre .0) (pre .1) (pre .2) (pre .4) (pre .5)
+    (is-before .result) (is-before .ensures) (c .if1 .taken) _
 
 after-requires : tie.Need-after-requires
 after-requires c κs = search needs
@@ -26,13 +30,22 @@ after-requires c κs = search needs
 is-before-requires-2 : tie.Need-is-before-requires-2
 is-before-requires-2 c κs =
     let entry = c .before .before .before .before .before .before .before in
-    omega (arith, c .after .ensures, after-name (entry .args .ents .now) (entry .args .b) (entry .args .e) (entry .args .i) _ (entry .pre .0) (entry .pre .1) (entry .pre .2) (entry .pre .4), entry .pre .3 .room)
+    let a = entry .args in
+    let pre = entry .pre in
+    let low = after-name (a .ents .now) (a .b) (a .e) (a .i) _ (pre .0) (pre .1) (pre .2) (pre .4) in
+    omega (arith, c .after .ensures, low, pre .3 .room)
 
 returns-2 : tie.Need-returns-2
 returns-2 c =
-    let entry = c .before .before .before .before .before .before .before .before in
-    let is-before = c .before .before .before .is-before in
-    start-if (entry .args .vs .now) (entry .args .rank .now) (entry .args .ents .now) (entry .pre .3) (entry .args .b) (entry .args .e) (entry .args .i) (entry .args .k) (entry .pre .0) (entry .pre .1) (entry .pre .2) (entry .pre .4) (entry .pre .5) (is-before .result) (is-before .ensures) (c .before .before .if1 .left) (c .before .after .result) (c .before .after .ensures) (c .is-before2 .result) (c .is-before2 .ensures)
+    let first = c .before .before .before in
+    let entry = first .before .before .before .before .before in
+    let a = entry .args in
+    let pre = entry .pre in
+    let is-before = first .is-before in
+    let after = c .before .after in
+    start-if (a .vs .now) (a .rank .now) (a .ents .now) (pre .3) (a .b) (a .e) (a .i) (a .k) (pre .0) (pre .1) (pre .2) (pre .4) (pre .5)
+    (is-before .result) (is-before .ensures) (c .before .before .if1 .left)
+    (after .result) (after .ensures) (c .is-before2 .result) (c .is-before2 .ensures)
 
 pub is-start-spec : {M : Type 1} → statement M
 is-start-spec =

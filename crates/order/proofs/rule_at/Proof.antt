@@ -2,10 +2,10 @@ use borrow.Author.Needs.{needs}
 use Rattle.order.proofs.rule_at.Statement.{statement}
 use Rattle.order.proofs.rule_at.Tie as tie
 use native.Mathlib.Omega.{arith}
-use Prim.Native.Nat.{_≤_, _+_, _-_, _<_}
+use Prim.Native.Nat.{_<_}
 use lib.ListN.{length}
 use Rattle.words.specs.Positions.{earlier}
-use Rattle.order.proofs.Rule.{ring-names, rule-few, rule-broken, rule-good}
+use Rattle.order.proofs.Rule.{ring-part, rule-few, rule-broken, rule-good}
 
 sub-number : tie.Need-sub-number
 sub-number c = search needs
@@ -42,29 +42,27 @@ number-requires-3 c κs = search needs
 
 count-before-requires : tie.Need-count-before-requires
 count-before-requires c κs =
-    let entry = c .before .before .before .before .before .before .before .before .before .before in
-    let number = c .before .before .before .before .number in
+    let named = c .before .before .before .before in
+    let entry = named .before .before .before .before .before .before in
     let b = c .before .before .number2 in
     let e = c .number3 in
+    let number = named .number in
     let vs = entry .args .vs .now in
     let at = entry .args .at .now in
     let ents = entry .args .ents .now in
-    let C = entry .pre .0 in
     let v = number .result in
     let low : v < length vs = omega (arith, number .ensures .0, entry .pre .6) in
-    let le : b .result ≤ e .result = omega (arith, C .rise v (omega arith), b .ensures, e .ensures) in
-    let within : e .result ≤ length ents = omega (arith, C .within (v + 1) (omega arith), e .ensures) in
-    let names =
-    ring-names at ents v (b .result) (e .result) (length vs) low (entry .pre .1) (b .ensures .0) (e .ensures .0) le within (entry .pre .3 v low) in
-    (le, within, entry .pre .2, names, entry .pre .5)
+    let w = ring-part at ents v _ _ (length vs) low (entry .pre .1) (b .ensures .0) (e .ensures .0) (entry .pre .0) (entry .pre .3 v low) in
+    (w .0, w .1, entry .pre .2, w .2, entry .pre .5)
 
 returns : tie.Need-returns
 returns c =
-    let entry = c .before .before .before .before .before .before .before .before .before .before .before .before in
-    let number = c .before .before .before .before .before .before .number in
+    let named = c .before .before .before .before .before .before in
+    let entry = named .before .before .before .before .before .before in
     let b = c .before .before .before .before .number2 in
     let e = c .before .before .number3 in
     let counted = c .before .count-before in
+    let number = named .number in
     let vs = entry .args .vs .now in
     let at = entry .args .at .now in
     let ents = entry .args .ents .now in
@@ -75,30 +73,29 @@ returns c =
 
 count-starts-requires : tie.Need-count-starts-requires
 count-starts-requires c κs =
-    let entry = c .before .before .before .before .before .before .before .before .before .before .before .before in
-    let number = c .before .before .before .before .before .before .number in
+    let named = c .before .before .before .before .before .before in
+    let entry = named .before .before .before .before .before .before in
     let b = c .before .before .before .before .number2 in
     let e = c .before .before .number3 in
+    let number = named .number in
     let vs = entry .args .vs .now in
     let at = entry .args .at .now in
     let ents = entry .args .ents .now in
-    let C = entry .pre .0 in
     let v = number .result in
     let low : v < length vs = omega (arith, number .ensures .0, entry .pre .6) in
-    let le : b .result ≤ e .result = omega (arith, C .rise v (omega arith), b .ensures, e .ensures) in
-    let within : e .result ≤ length ents = omega (arith, C .within (v + 1) (omega arith), e .ensures) in
-    let names =
-    ring-names at ents v (b .result) (e .result) (length vs) low (entry .pre .1) (b .ensures .0) (e .ensures .0) le within (entry .pre .3 v low) in
-    (le, within, entry .pre .2, names, entry .pre .5)
+    let w = ring-part at ents v _ _ (length vs) low (entry .pre .1) (b .ensures .0) (e .ensures .0) (entry .pre .0) (entry .pre .3 v low) in
+    (w .0, w .1, entry .pre .2, w .2, entry .pre .5)
 
 returns-2 : tie.Need-returns-2
 returns-2 c =
-    let entry = c .before .before .before .before .before .before .before .before .before .before .before .before .before .before in
-    let number = c .before .before .before .before .before .before .before .before .number in
-    let b = c .before .before .before .before .before .before .number2 in
-    let e = c .before .before .before .before .number3 in
-    let counted = c .before .before .before .count-before in
+    let before = c .before .before .before in
+    let named = before .before .before .before .before .before in
+    let entry = named .before .before .before .before .before .before in
+    let b = before .before .before .before .number2 in
+    let e = before .before .number3 in
+    let counted = before .count-before in
     let begun = c .before .count-starts in
+    let number = named .number in
     let vs = entry .args .vs .now in
     let at = entry .args .at .now in
     let ents = entry .args .ents .now in
@@ -110,12 +107,14 @@ returns-2 c =
 
 returns-3 : tie.Need-returns-3
 returns-3 c =
-    let entry = c .before .before .before .before .before .before .before .before .before .before .before .before .before .before in
-    let number = c .before .before .before .before .before .before .before .before .number in
-    let b = c .before .before .before .before .before .before .number2 in
-    let e = c .before .before .before .before .number3 in
-    let counted = c .before .before .before .count-before in
+    let before = c .before .before .before in
+    let named = before .before .before .before .before .before in
+    let entry = named .before .before .before .before .before .before in
+    let b = before .before .before .before .number2 in
+    let e = before .before .number3 in
+    let counted = before .count-before in
     let begun = c .before .count-starts in
+    let number = named .number in
     let vs = entry .args .vs .now in
     let at = entry .args .at .now in
     let ents = entry .args .ents .now in
