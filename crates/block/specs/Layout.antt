@@ -5,6 +5,10 @@ use Prim.Native.Nat.{ℕ, _+_, _*_, _-_}
 abbrev pub limit : ℕ
 limit = 1000
 
+-- a post hangs at most so many columns away from the one that covers it, so no offset stored with this added is below zero
+abbrev pub bias : ℕ
+bias = 2 * limit
+
 -- mark 3 bytes, version 2, n 2
 abbrev pub versionAt : ℕ
 versionAt = 3

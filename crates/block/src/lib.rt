@@ -5,7 +5,7 @@ ghost use Prim.Native.Nat.{ℕ, _+_, _*_, _-_, _≤_, _<_};
 ghost use lib.ListN.{length, getD, take};
 ghost use Rattle.words.specs.First.{first};
 ghost use Rattle.words.specs.Numbers.{sumOf};
-ghost use Rattle.block.specs.Layout.{limit, degreesAt, listsAt, entries, sumAt, size};
+ghost use Rattle.block.specs.Layout.{limit, bias, degreesAt, listsAt, entries, sumAt, size};
 ghost use Rattle.block.specs.Block.{posts, order, degrees, marked, badEntry, badDegree};
 
 // A block's number of posts, which fixes where its parts begin.
@@ -14,15 +14,23 @@ pub struct Block {
 }
 
 impl Block {
-    // n is from 3 to this.
+    // n is from 3 to this. It stands here and in specs/Layout.antt alone; everything else follows from it.
     pub const LIMIT: usize = 1000;
 
     // The most entries that the neighbour lists have together.
-    pub const ENTRIES: usize = 5988;
+    pub const ENTRIES: usize = 6 * Block::LIMIT - 12;
 
-    pub const SHORTEST: usize = 33;
+    // The length of the longest block.
+    pub const LONGEST: usize = 16 * Block::LIMIT - 15;
 
-    pub const LONGEST: usize = 15985;
+    // What is added to an offset between two columns, so that no number below zero is stored.
+    pub const BIAS: usize = 2 * Block::LIMIT;
+
+    // These constants are the definitions' numbers.
+    pub fn limits()
+        ensures { λ r. do ⌜ ((← ⟦Block::LIMIT⟧ .entry) ≡ limit) × ((← ⟦Block::ENTRIES⟧ .entry) ≡ entries limit) ⌝ }
+        ensures { λ r. do ⌜ ((← ⟦Block::LONGEST⟧ .entry) ≡ size limit) × ((← ⟦Block::BIAS⟧ .entry) ≡ bias) ⌝ }
+    {}
 
     pub const VERSION_AT: usize = 3;
 
@@ -150,10 +158,10 @@ pub fn starts(ds: &[u16], at: &mut [u16])
     at[u] = t;
 }
 
-fn no_marks() -> [u8; 1000]
+fn no_marks() -> [u8; Block::LIMIT]
     ensures { λ r. ⌜ (limit ≤ length r) × ((a : ℕ) → getD r a 0 ≡ 0) ⌝ }
 {
-    [0u8; 1000]
+    [0u8; Block::LIMIT]
 }
 
 // Step 7: vs becomes the order; the first position at fault, or n + 1.

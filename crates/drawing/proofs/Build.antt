@@ -7,7 +7,8 @@ use native.Mathlib.Omega.{arith}
 use Rattle.words.specs.Lists.{In}
 use Rattle.drawing.specs.Meeting.{Places}
 use Rattle.drawing.specs.Areas.{PositiveArea}
-use Rattle.drawing.proofs.Lists.{Chain, in-append, in-left, in-right}
+use Rattle.words.proofs.Lists.{in-cases, in-left, in-right}
+use Rattle.words.proofs.Chains.{Chain}
 
 -- two posts with a wire; then each new post v with its run p, M, q on the contour. The index is the contour
 pub data Build : List ℕ → Type 0 where
@@ -19,9 +20,9 @@ Post (base a b) u = (u ≡ a) ⊎ (u ≡ b)
 Post (post L p M q R v B) u = (u ≡ v) ⊎ Post B u
 
 -- the wire from u to w, u the later of the two (of the first two, the first)
-abbrev pub Wire : {C : List ℕ} → Build C → ℕ → ℕ → Type 0
-Wire (base a b) u w = (u ≡ a) × (w ≡ b)
-Wire (post L p M q R v B) u w = ((u ≡ v) × In w (p ∷ (M ++ q ∷ []))) ⊎ Wire B u w
+abbrev pub Built : {C : List ℕ} → Build C → ℕ → ℕ → Type 0
+Built (base a b) u w = (u ≡ a) × (w ≡ b)
+Built (post L p M q R v B) u w = ((u ≡ v) × In w (p ∷ (M ++ q ∷ []))) ⊎ Built B u w
 
 -- a is left of b, or right below it
 pub record Before (s : Places) (a b : ℕ) : Type 0 where
@@ -44,7 +45,7 @@ on-contour (base a b) u (inl e) = inl e
 on-contour (base a b) u (inr (inl e)) = inr e
 on-contour (base a b) u (inr (inr h)) = absurd h
 on-contour (post L p M q R v B) u h =
-    in-append u L (p ∷ v ∷ q ∷ R) (λ i. inr (on-contour B u (in-left u L _ i))) (go (λ i. on-contour B u i)) h
+    in-cases u L (p ∷ v ∷ q ∷ R) (λ i. inr (on-contour B u (in-left u L _ i))) (go (λ i. on-contour B u i)) h
   where
     go : (In u (L ++ p ∷ (M ++ q ∷ R)) → Post B u) → In u (p ∷ v ∷ q ∷ R) → (u ≡ v) ⊎ Post B u
     go f (inl e) = inr (f (in-right u L _ (inl e)))

@@ -1,4 +1,4 @@
--- The wires under a contour, and the two steps that keep them apart: a new post over two neighbours, and a neighbour cut off by a wire
+-- The wires under a contour, and the two steps that keep them apart: a new post over two neighbours, and a neighbour cut-off off by a wire
 -- above it.
 use Prim.Native.Nat.{ℕ, _*_, _≤_, _<_}
 use mathlib.Core.Path.{_≡_, refl, sym}
@@ -10,7 +10,7 @@ use Rattle.drawing.specs.Meeting.{Point, Places, At}
 use Rattle.drawing.proofs.Numbers.{by-le}
 use Rattle.drawing.specs.Areas.{PositiveArea}
 use Rattle.drawing.proofs.Fan.{Along, on-under, at-left, at-right, on-left, on-right, left-fan, left-only, right-fan, right-only}
-use Rattle.drawing.proofs.Lists.{Chain, chain-map, chain-at, chain-swap}
+use Rattle.words.proofs.Chains.{Chain, chain-map, chain-at, chain-swap}
 use Rattle.drawing.proofs.Roof.{Roof, Rising, roof-swap, roof-in, roof-left, roof-right}
 
 -- a common point of two wires: they are one wire, or the point is at a post that both end at
@@ -33,21 +33,21 @@ pub record Wires (s : Places) (E : ℕ → ℕ → Type 0) (C : List ℕ) : Type
   pub roof : {a b : ℕ} {P : Point} → E a b → Along s a b P → Roof s P C
   pub meet : {a b c e : ℕ} {P : Point} → E a b → E c e → Along s a b P → Along s c e P → Common s a b c e P
 
-pub data Placed (E : ℕ → ℕ → Type 0) (z : ℕ) : Type 0 where
-  begins : {t : ℕ} → E z t → Placed E z
-  ends : {t : ℕ} → E t z → Placed E z
+pub data EndOf (E : ℕ → ℕ → Type 0) (z : ℕ) : Type 0 where
+  begins : {t : ℕ} → E z t → EndOf E z
+  ends : {t : ℕ} → E t z → EndOf E z
 
 module _ (s : Places) {E : ℕ → ℕ → Type 0} {C : List ℕ} (W : Wires s E C) where
   open Places s using (x, y)
 
-  pub rising : (l : List ℕ) → Chain E l → Rising s l
-  rising l = chain-map (λ b c e. W .right e) l
+  pub chain-rising : (l : List ℕ) → Chain E l → Rising s l
+  chain-rising l = chain-map (λ b c e. W .right e) l
 
   two-places : {a b : ℕ} {P : Point} → x a < x b → At s a P → At s b P → ⊥
   two-places {a} {b} {P} h i j = omega (arith, mul-le-mul-right (P .d) h, P .positive)
 
   -- a post on a wire is one of its ends
-  pub through : {z u w : ℕ} {P : Point} → Placed E z → E u w → Along s u w P → At s z P → (z ≡ u) ⊎ (z ≡ w)
+  pub through : {z u w : ℕ} {P : Point} → EndOf E z → E u w → Along s u w P → At s z P → (z ≡ u) ⊎ (z ≡ w)
   through {z} {u} {w} {P} (begins {t} e) f o h = go (W .meet e f (at-left s h) o)
     where
       go : Common s z t u w P → (z ≡ u) ⊎ (z ≡ w)
@@ -89,8 +89,8 @@ pub record K (s : Places) (E : ℕ → ℕ → Type 0) (C : List ℕ) : Type 0 w
 pub data Ground (a b : ℕ) : ℕ → ℕ → Type 0 where
   ground : Ground a b a b
 
-pub start : (s : Places) (a b : ℕ) → s .x a < s .x b → K s (Ground a b) (a ∷ b ∷ [])
-start s a b h = record { wires = record { right = right'; roof = roof'; meet = meet' }; chain = (ground, tt) }
+pub two-posts : (s : Places) (a b : ℕ) → s .x a < s .x b → K s (Ground a b) (a ∷ b ∷ [])
+two-posts s a b h = record { wires = record { right = right'; roof = roof'; meet = meet' }; chain = (ground, tt) }
   where
     right' : {u w : ℕ} → Ground a b u w → s .x u < s .x w
     right' ground = h
@@ -130,34 +130,34 @@ module _ (s : Places) (E : ℕ → ℕ → Type 0) (L R : List ℕ) (a b v : ℕ
 
   -- an old wire's point on a new wire
   old-at : (P : Point) {u w : ℕ} → E u w → Along s u w P → (Along s a v P → At s a P) × (Along s v b P → At s b P)
-  old-at P e o = go (roof-left s a P L (b ∷ R) (rising s (k .wires) (L ++ a ∷ b ∷ R) (k .chain)) (k .wires .roof e o))
+  old-at P e o = go (roof-left s a P L (b ∷ R) (chain-rising s (k .wires) (L ++ a ∷ b ∷ R) (k .chain)) (k .wires .roof e o))
     where
       go : (P .X ≤ x a * P .d) ⊎ Roof s P (a ∷ b ∷ R) → (Along s a v P → At s a P) × (Along s v b P → At s b P)
       go (inl h) = (λ p. on-left s av p h, λ p. absurd (omega (arith, on-under s vb p .from, mul-le-mul-right (P .d) av, P .positive)))
       go (inr (inl u)) = (left-only s turn ab av u, right-only s turn' ab vb u)
       go (inr (inr r)) =
-          let h = roof-right s P b R (rising s (k .wires) (b ∷ R) (tail .1)) r in
+          let h = roof-right s P b R (chain-rising s (k .wires) (b ∷ R) (tail .1)) r in
           (λ p. absurd (omega (arith, on-under s av p .to, mul-le-mul-right (P .d) vb, P .positive)), λ p. on-right s vb p h)
 
-  first : Wires s E₁ (L ++ a ∷ v ∷ b ∷ R)
-  first =
+  left-wire : Wires s E₁ (L ++ a ∷ v ∷ b ∷ R)
+  left-wire =
       extend s (k .wires) av up (λ P o. roof-in s a P L (v ∷ b ∷ R) (inl (on-under s av o)))
       (λ u w P e o p. let h = old-at P e o .0 p in shared a (inl refl) (through s (k .wires) (begins (tail .0)) e o h) h)
 
-  second : (u w : ℕ) (P : Point) → E₁ u w → Along s u w P → Along s v b P → Common s v b u w P
-  second u w P (was e) o p = let h = old-at P e o .1 p in shared b (inr refl) (through s (k .wires) (ends (tail .0)) e o h) h
-  second u w P new o p = shared v (inl refl) (inr refl) (on-left s vb p (on-under s av o .to))
+  right-wire : (u w : ℕ) (P : Point) → E₁ u w → Along s u w P → Along s v b P → Common s v b u w P
+  right-wire u w P (was e) o p = let h = old-at P e o .1 p in shared b (inr refl) (through s (k .wires) (ends (tail .0)) e o h) h
+  right-wire u w P new o p = shared v (inl refl) (inr refl) (on-left s vb p (on-under s av o .to))
 
   pub split : K s E₂ (L ++ a ∷ v ∷ b ∷ R)
   split =
       record {
-        wires = extend s first vb (λ P r. r) (λ P o. roof-in s a P L (v ∷ b ∷ R) (inr (inl (on-under s vb o)))) second;
+        wires = extend s left-wire vb (λ P r. r) (λ P o. roof-in s a P L (v ∷ b ∷ R) (inr (inl (on-under s vb o)))) right-wire;
         chain =
             chain-swap E₂ a L (b ∷ R) (v ∷ b ∷ R) (chain-map (λ c d e. was (was e)) (L ++ a ∷ b ∷ R) (k .chain))
             (was new, (new, chain-map (λ c d e. was (was e)) (b ∷ R) (tail .1)));
       }
 
--- the neighbour b cut off by a wire from a to c
+-- the neighbour b cut-off off by a wire from a to c
 module _ (s : Places) (E : ℕ → ℕ → Type 0) (L R : List ℕ) (a b c : ℕ) (k : K s E (L ++ a ∷ b ∷ c ∷ R)) (turn : PositiveArea s a b c) where
   open Places s using (x, y)
 
@@ -182,7 +182,7 @@ module _ (s : Places) (E : ℕ → ℕ → Type 0) (L R : List ℕ) (a b c : ℕ
       go (inr (inr r)) = inr r
 
   cut-meet : (u w : ℕ) (P : Point) → E u w → Along s u w P → Along s a c P → Common s a c u w P
-  cut-meet u w P e o p = go (roof-left s a P L (b ∷ c ∷ R) (rising s (k .wires) (L ++ a ∷ b ∷ c ∷ R) (k .chain)) (k .wires .roof e o))
+  cut-meet u w P e o p = go (roof-left s a P L (b ∷ c ∷ R) (chain-rising s (k .wires) (L ++ a ∷ b ∷ c ∷ R) (k .chain)) (k .wires .roof e o))
     where
       at-a : At s a P → Common s a c u w P
       at-a h = shared a (inl refl) (through s (k .wires) (begins (tail' .0)) e o h) h
@@ -194,10 +194,10 @@ module _ (s : Places) (E : ℕ → ℕ → Type 0) (L R : List ℕ) (a b c : ℕ
       go (inl h) = at-a (on-left s ac' p h)
       go (inr (inl i)) = at-a (left-only s turn ab' ac' i p)
       go (inr (inr (inl i))) = at-c (right-only s turn bc' ac' i p)
-      go (inr (inr (inr r))) = at-c (on-right s ac' p (roof-right s P c R (rising s (k .wires) (c ∷ R) (tail' .1 .1)) r))
+      go (inr (inr (inr r))) = at-c (on-right s ac' p (roof-right s P c R (chain-rising s (k .wires) (c ∷ R) (tail' .1 .1)) r))
 
-  pub cut : K s (Add E a c) (L ++ a ∷ c ∷ R)
-  cut =
+  pub cut-off : K s (Add E a c) (L ++ a ∷ c ∷ R)
+  cut-off =
       record {
         wires = extend s (k .wires) ac' over (λ P o. roof-in s a P L (c ∷ R) (inl (on-under s ac' o))) cut-meet;
         chain =

@@ -1,5 +1,4 @@
 pub mod Numbers
-pub mod Lists
 pub mod Fan
 pub mod Points
 pub mod Roof

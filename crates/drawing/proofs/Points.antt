@@ -1,4 +1,4 @@
--- A point of two segments, given over the sum of the weights on both at once.
+-- A point of two segments, given over the sum of the weights on over-both at once.
 use Prim.Native.Nat.{ℕ, _+_, _*_, _<_}
 use mathlib.Core.Path.{_≡_}
 use native.Mathlib.Nat.{mul-pos, eq-of-mul-eq-mul-left}
@@ -39,8 +39,8 @@ module _ (s : Places) {a b c e : ℕ} {P : Point} (o : On s a b P) (p : On s c e
   any : 0 < m
   any = mul-pos {m = k} {n = l} (o .some) (p .some)
 
-  pub both : Both s a b c e P
-  both =
+  pub over-both : Both s a b c e P
+  over-both =
       record {
         Q = record { X = X * m; Y = Y * m; d = d * m; positive = mul-pos {m = d} {n = m} (P .positive) any };
         first =

@@ -5,7 +5,7 @@ use mathlib.Core.List.{List, [], _∷_, _++_}
 use native.Mathlib.Nat.{mul-le-mul-right}
 use native.Mathlib.Omega.{arith}
 use Rattle.drawing.specs.Meeting.{Point, Places}
-use Rattle.drawing.proofs.Lists.{Chain}
+use Rattle.words.proofs.Chains.{Chain}
 use Rattle.drawing.proofs.Fan.{Under}
 
 -- the point is under two neighbours

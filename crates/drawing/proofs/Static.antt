@@ -11,11 +11,12 @@ use Rattle.drawing.specs.Meeting.{Point, Places, At, Same, End, NoneMeet
 use Rattle.drawing.proofs.Numbers.{by-le, by-cmp, times}
 use Rattle.drawing.specs.Areas.{PositiveArea}
 use Rattle.drawing.proofs.Fan.{Along, at-left, at-right}
-use Rattle.drawing.proofs.Lists.{in-run, chain-in}
-use Rattle.drawing.proofs.Points.{both}
-use Rattle.drawing.proofs.Keep.{K, Common, same, shared, Placed, begins, ends, Ground, ground, start, through}
-use Rattle.drawing.proofs.Insert.{Clear, Grown, insert}
-use Rattle.drawing.proofs.Build.{Build, base, post, Post, Wire, Before, Good, on-contour, top}
+use Rattle.words.proofs.Lists.{in-run}
+use Rattle.words.proofs.Chains.{chain-in}
+use Rattle.drawing.proofs.Points.{over-both}
+use Rattle.drawing.proofs.Keep.{K, Common, same, shared, EndOf, begins, ends, Ground, ground, two-posts, through}
+use Rattle.drawing.proofs.Insert.{Clear, Inserted, insert}
+use Rattle.drawing.proofs.Build.{Build, base, post, Post, Built, Before, Good, on-contour, top}
 
 no-turn : (xa ya xb yb xv yv : ℕ) → xb ≡ xv → yb ≡ yv → xb * ya + xv * yb + xa * yv < xa * yb + xb * yv + xv * ya → ⊥
 no-turn xa ya xb yb xv yv e f t = omega (arith, times ya e, times yb e, times xb f, times xa f)
@@ -60,19 +61,19 @@ module _ (s : Places) (N : ℕ) (some : 0 < N) where
   record Traced {C : List ℕ} (B : Build C) : Type 1 where
     E : ℕ → ℕ → Type 0
     k : K sheared E C
-    wire : (u w : ℕ) → Wire B u w → E u w ⊎ E w u
-    placed : (u : ℕ) → Post B u → Placed E u
+    wire : (u w : ℕ) → Built B u w → E u w ⊎ E w u
+    placed : (u : ℕ) → Post B u → EndOf E u
 
   -- with the wires of a new post v
   grown : (L : List ℕ) (p : ℕ) (M : List ℕ) (q : ℕ) (R : List ℕ) (v : ℕ) (B : Build (L ++ p ∷ (M ++ q ∷ R))) (D : Traced B)
-      → Grown sheared (D .E) v (p ∷ (M ++ q ∷ [])) (L ++ p ∷ v ∷ q ∷ R) → Traced (post L p M q R v B)
+      → Inserted sheared (D .E) v (p ∷ (M ++ q ∷ [])) (L ++ p ∷ v ∷ q ∷ R) → Traced (post L p M q R v B)
   grown L p M q R v B D r = record { E = r .E'; k = r .k; wire = wire; placed = placed }
     where
-      wire : (u w : ℕ) → ((u ≡ v) × In w (p ∷ (M ++ q ∷ []))) ⊎ Wire B u w → r .E' u w ⊎ r .E' w u
+      wire : (u w : ℕ) → ((u ≡ v) × In w (p ∷ (M ++ q ∷ []))) ⊎ Built B u w → r .E' u w ⊎ r .E' w u
       wire u w (inl h) = rw (h .0) (r .joined w (h .1))
       wire u w (inr h) = elim (D .wire u w h) [ inl e ↦ inl (r .old u w e) | inr e ↦ inr (r .old w u e) ]
 
-      placed : (u : ℕ) → (u ≡ v) ⊎ Post B u → Placed (r .E') u
+      placed : (u : ℕ) → (u ≡ v) ⊎ Post B u → EndOf (r .E') u
       placed u (inl e) = rw e (elim (r .joined p (inl refl)) [ inl j ↦ begins j | inr j ↦ ends j ])
       placed u (inr h) = elim (D .placed u h) [ begins e ↦ begins (r .old _ _ e) | ends e ↦ ends (r .old _ _ e) ]
 
@@ -80,7 +81,7 @@ module _ (s : Places) (N : ℕ) (some : 0 < N) where
   traced (base a b) g tall =
       record {
         E = Ground a b;
-        k = start sheared a b (before (tall a (inl refl)) g);
+        k = two-posts sheared a b (before (tall a (inl refl)) g);
         wire = λ u w h. inl (rw (h .0, h .1) ground);
         placed = λ u. elim [ inl e ↦ rw e (begins ground) | inr e ↦ rw e (ends ground) ];
       }
@@ -97,14 +98,14 @@ module _ (s : Places) (N : ℕ) (some : 0 < N) where
     turn-over : {a b : ℕ} {P : Point} → Along s a b P → Along s b a P
     turn-over o = record { i = o .j; j = o .i; sum = omega (arith, o .sum); isX = omega (arith, o .isX); isY = omega (arith, o .isY) }
 
-    either : (u w : ℕ) → Wire B u w ⊎ Wire B w u → D .E u w ⊎ D .E w u
-    either u w (inl h) = D .wire u w h
-    either u w (inr h) = elim (D .wire w u h) [ inl e ↦ inr e | inr e ↦ inl e ]
+    either-way : (u w : ℕ) → Built B u w ⊎ Built B w u → D .E u w ⊎ D .E w u
+    either-way u w (inl h) = D .wire u w h
+    either-way u w (inr h) = elim (D .wire w u h) [ inl e ↦ inr e | inr e ↦ inl e ]
 
     -- different wires meet at a shared post only
-    meets-here : (a b c e : ℕ) → Wire B a b ⊎ Wire B b a → Wire B c e ⊎ Wire B e c → ¬ (Same a b c e) → {P : Point} → Along s a b P → Along s c e P
+    meets-here : (a b c e : ℕ) → Built B a b ⊎ Built B b a → Built B c e ⊎ Built B e c → ¬ (Same a b c e) → {P : Point} → Along s a b P → Along s c e P
         → (z : ℕ) × End z a b × End z c e × At s z P
-    meets-here a b c e h i n {P} o p = go (either a b h) (either c e i)
+    meets-here a b c e h i n {P} o p = go (either-way a b h) (either-way c e i)
       where
         other : {k l z : ℕ} → End z k l → End z l k
         other (inl q) = inr q
@@ -135,7 +136,7 @@ module _ (s : Places) (N : ℕ) (some : 0 < N) where
         one-column : (t : ℕ) → w ≡ t → N * x u + y u ≡ N * x t + y t
         one-column t a = omega (arith, ap (λ (n : ℕ). N * n) ex, ap (λ (n : ℕ). N * x n) a, ap y a)
 
-        go : Placed (D .E) u → Placed (D .E) w → u ≡ w
+        go : EndOf (D .E) u → EndOf (D .E) w → u ≡ w
         go (begins {t} e) f =
             elim (through sheared (D .k .wires) f e (at-left sheared at-u) at-w)
             [ inl a ↦ sym a | inr a ↦ absurd (omega (arith, D .k .wires .right e, one-column t a)) ]
@@ -145,11 +146,11 @@ module _ (s : Places) (N : ℕ) (some : 0 < N) where
 
 -- ---- the theorem
 module _ (s : Places) {C : List ℕ} (B : Build C) (g : Good s B) where
-  pub none-meet : NoneMeet s (λ a b. Wire B a b ⊎ Wire B b a)
-  none-meet a b c e h i n P o p =
+  pub none-meet : NoneMeet s (λ a b. Built B a b ⊎ Built B b a)
+  none-meet a b c e h i n m =
       let t = top s B in
       let D = traced s (t .n) (t .some) B g (t .tall) in
-      let q = both s o p in
+      let q = over-both s (m .1) (m .2) in
       let r = meets-here s (t .n) (t .some) B D a b c e h i n (q .first) (q .second) in
       (r .0, r .1, r .2, q .back (r .3))
 

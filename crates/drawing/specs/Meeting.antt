@@ -42,7 +42,7 @@ Same a b c e = ((a ≡ c) × (b ≡ e)) ⊎ ((a ≡ e) × (b ≡ c))
 -- no two different wires meet except at a post they share: each point that lies on both is where a shared post stands
 abbrev pub NoneMeet : Places → (ℕ → ℕ → Type 0) → Type 0
 NoneMeet s Wire =
-    (a b c e : ℕ) → Wire a b → Wire c e → ¬ (Same a b c e) → (P : Point) → On s a b P → On s c e P → (z : ℕ) × End z a b × End z c e × At s z P
+    (a b c e : ℕ) → Wire a b → Wire c e → ¬ (Same a b c e) → (m : Meet s a b c e) → (z : ℕ) × End z a b × End z c e × At s z (m .0)
 
 -- the posts stand on different points of the grid so wide and so high
 pub record OnGrid (s : Places) (Post : ℕ → Type 0) (width height : ℕ) : Type 0 where

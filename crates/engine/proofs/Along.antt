@@ -6,8 +6,8 @@ use mathlib.Core.List.{List, [], _∷_, _++_, append-nil}
 use native.Mathlib.Omega.{arith}
 use lib.ListN.{length, getD, set, length-set, length-append}
 use lib.Seq.{getD-set-same, getD-set-other}
-use Rattle.words.specs.Lists.{In, lastOf}
-use Rattle.words.proofs.Lists.{Adj, Once, adj-tail, last-append}
+use Rattle.words.specs.Lists.{In, lastOf, Adj}
+use Rattle.words.proofs.Lists.{Once, adj-tail, last-append}
 use Rattle.arrays.specs.Arrays.{bias, path, walk, along, Below, covered, hung, Fits}
 
 pub below-all : (n : ℕ) (l : List ℕ) → ((a : ℕ) → In a l → a < n) → Below n l

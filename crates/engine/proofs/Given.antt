@@ -1,5 +1,5 @@
 -- What is read from arrays with a stage and its columns: the sheet's entries and a post's record are the stage's.
-use Prim.Native.Nat.{ℕ, _+_, _*_, _-_, _≤_, _<_}
+use Prim.Native.Nat.{ℕ, _+_, _*_, _≤_, _<_}
 use mathlib.Core.Path.{_≡_, refl, ap, sym, _∙_, subst, subst⁻¹}
 use mathlib.Core.Logic.{_⊎_, inl, inr}
 use mathlib.Core.Bool.{cond}
@@ -9,9 +9,9 @@ use lib.Dec.{eqb}
 use lib.ListN.{length, getD, take, drop}
 use lib.Seq.{getD-take}
 use borrow.Author.Tests.{eq-eqb, ne-eqb}
-use Rattle.words.specs.Lists.{In, mem, lastOf}
+use Rattle.words.specs.Lists.{In, mem, lastOf, Head, Adj}
 use Rattle.words.specs.Positions.{post}
-use Rattle.words.proofs.Lists.{Head, Adj, Once, in-dec, adj-in-left, adj-tail, last-in}
+use Rattle.words.proofs.Lists.{Once, in-dec, adj-in-left, adj-tail, last-in}
 use Rattle.words.proofs.Tests.{is-true, is-false, in-mem, mem-in, place-in}
 use Rattle.words.proofs.Positions.{in-take}
 use Rattle.block.specs.Layout.{limit}

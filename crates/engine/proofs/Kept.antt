@@ -1,5 +1,5 @@
 -- What each stage keeps besides its drawing: a covered post and the one that covers it are in one group, so each later step moves them alike.
-use Prim.Native.Nat.{ℕ, _+_, _*_, _-_, _≤_, _<_}
+use Prim.Native.Nat.{ℕ, _+_, _*_, _≤_, _<_}
 use mathlib.Core.Path.{_≡_, refl, ap, sym, _∙_, subst, subst⁻¹}
 use mathlib.Core.Logic.{_⊎_, inl, inr, _≢_}
 use mathlib.Core.List.{List, [], _∷_, _++_, flatMap}
@@ -7,10 +7,10 @@ use native.Mathlib.Omega.{arith}
 use native.Mathlib.Decide.{ℕ-discrete, decLt}
 use lib.ListN.{length, getD, take, length-append, List·getD-append}
 use lib.Seq.{getD-at}
-use Rattle.words.specs.Lists.{In}
+use Rattle.words.specs.Lists.{In, Head}
 use Rattle.words.specs.Positions.{post}
-use Rattle.words.proofs.Lists.{Head, in-head, head-same, in-dec, in-left, in-right, in-cases, swap-in}
-use Rattle.words.proofs.Tests.{eqb-same, eqb-other, place-in}
+use Rattle.words.proofs.Lists.{in-head, head-same, in-dec, in-left, in-right, in-cases, swap-in}
+use Rattle.words.proofs.Tests.{eqb-same, eqb-other, place-in, mem-true, mem-false}
 use Rattle.rings.specs.Plane.{Plane}
 use Rattle.order.specs.Fitting.{FitsSoFar}
 use Rattle.order.proofs.Fitting.{fits-once}
@@ -18,7 +18,7 @@ use Rattle.placing.specs.Stages.{Stage, third, placeOver, place, stage}
 use Rattle.placing.proofs.Steps.{Step, place-placed, at-each-stage}
 use Rattle.placing.proofs.Placed.{place-group, place-cover, place-x-old}
 use Rattle.drawing.proofs.Build.{Build, post as build-post, on-contour}
-use Rattle.plane.proofs.Lists.{in-mem, not-mem, in-groups, groups-in, sides}
+use Rattle.plane.proofs.Lists.{in-groups, groups-in, sides}
 use Rattle.plane.proofs.Drawn.{Drawn}
 use Rattle.plane.proofs.Over.{before, inside, after, ends, by-0, by-1, by-2}
 use Rattle.plane.proofs.Next.{OneStep, step, stepped}
@@ -156,10 +156,10 @@ module _ (G : List (List ℕ)) (t : Stage) (v : ℕ) (s : Step G t v) (K : Kept 
   group-old c n = place-group G t v s c ∙ rw (eqb-other c v n) refl
 
   pub cover-in : (u : ℕ) → In u (s .M) → t' .cover u ≡ v
-  cover-in u i = place-cover G t v s u ∙ rw (in-mem (s .M) u i) refl
+  cover-in u i = place-cover G t v s u ∙ rw (mem-true (s .M) u i) refl
 
   pub cover-off : (u : ℕ) → ¬ (In u (s .M)) → t' .cover u ≡ t .cover u
-  cover-off u n = place-cover G t v s u ∙ rw (not-mem (s .M) u n) refl
+  cover-off u n = place-cover G t v s u ∙ rw (mem-false (s .M) u n) refl
 
   in-M : (u : ℕ) → In u (s .M) → In u (t .contour)
   in-M u i = rw (s .before) (in-right u (s .X) (s .p ∷ (s .M ++ s .q ∷ s .Y)) (inr (in-left u (s .M) (s .q ∷ s .Y) i)))

@@ -6,8 +6,8 @@ use mathlib.Core.List.{List, [], _∷_, _++_, append-assoc}
 use native.Mathlib.Omega.{arith}
 use lib.ListN.{length, getD, set, length-set}
 use lib.Seq.{getD-set-same, getD-set-other}
-use Rattle.words.specs.Lists.{In}
-use Rattle.words.proofs.Lists.{Head, Adj, Once, once-split, once-drop, in-left, in-right, adj-left, adj-right, last-append}
+use Rattle.words.specs.Lists.{In, Head, Adj}
+use Rattle.words.proofs.Lists.{Once, once-split, once-drop, in-left, in-right, adj-left, adj-right, last-append}
 use Rattle.block.specs.Layout.{limit}
 use Rattle.placing.specs.Stages.{Stage, place}
 use Rattle.placing.proofs.Steps.{Step}

@@ -1,14 +1,14 @@
 -- The step of the engine: arrays that show a stage, changed at v, at the ends of its run and at the posts it covers, show the next stage.
-use Prim.Native.Nat.{ℕ, _+_, _-_, _<_}
+use Prim.Native.Nat.{ℕ, _+_, _<_}
 use mathlib.Core.Path.{_≡_, refl, ap, sym, _∙_, subst, subst⁻¹}
 use mathlib.Core.Logic.{_⊎_, inl, inr}
 use mathlib.Core.List.{List, [], _∷_, _++_, append-assoc}
 use native.Mathlib.Omega.{arith}
 use native.Mathlib.Decide.{ℕ-discrete}
 use lib.ListN.{length, getD, List·getD-append}
-use Rattle.words.specs.Lists.{In, lastOf}
+use Rattle.words.specs.Lists.{In, lastOf, Adj}
 use Rattle.words.specs.Positions.{post}
-use Rattle.words.proofs.Lists.{Adj, Once, once-split, once-drop, in-dec, in-left, in-right, in-cases, adj-in-left, adj-in-right, adj-left, adj-right, adj-cases, adj-init, adj-tail, last-append, last-in}
+use Rattle.words.proofs.Lists.{Once, once-split, once-drop, in-dec, in-left, in-right, in-cases, adj-in-left, adj-in-right, adj-left, adj-right, adj-cases, adj-init, adj-tail, last-append, last-in}
 use Rattle.placing.specs.Stages.{Stage, place}
 use Rattle.placing.proofs.Steps.{Step, place-placed}
 use Rattle.plane.proofs.Lists.{sides}

@@ -1,13 +1,12 @@
 -- Stage 3 in the arrays.
 use Prim.Native.Nat.{ℕ, _<_}
-use mathlib.Core.Path.{_≡_, refl, sym, _∙_, subst, subst⁻¹}
+use mathlib.Core.Path.{_≡_, refl, sym, _∙_, subst⁻¹}
 use mathlib.Core.Logic.{inl, inr, _≢_}
 use mathlib.Core.List.{List, [], _∷_}
 use native.Mathlib.Omega.{arith}
 use lib.ListN.{length, getD, set, length-set}
 use lib.Seq.{getD-set-same, getD-set-other}
-use Rattle.words.specs.Lists.{In}
-use Rattle.words.proofs.Lists.{Adj}
+use Rattle.words.specs.Lists.{In, Adj}
 use Rattle.words.proofs.Tests.{eqb-same, eqb-other, place-in}
 use Rattle.rings.specs.Held.{held}
 use Rattle.order.proofs.Fitting.{fits-once}

@@ -4,9 +4,8 @@ use mathlib.Core.Path.{_≡_}
 use mathlib.Core.Logic.{_≢_}
 use mathlib.Core.List.{List}
 use lib.ListN.{length, getD, take}
-use Rattle.words.specs.Lists.{In}
+use Rattle.words.specs.Lists.{In, Adj}
 use Rattle.words.specs.Positions.{post}
-use Rattle.words.proofs.Lists.{Adj}
 use Rattle.rings.specs.Held.{held}
 use Rattle.placing.specs.Stages.{Stage, stage}
 use Rattle.arrays.specs.Arrays.{bias}

@@ -5,9 +5,9 @@ use mathlib.Core.List.{List, [], _∷_, _++_, append-assoc}
 use Prim.Native.Nat.{ℕ, _≤_, _<_}
 use native.Mathlib.Omega.{arith}
 use lib.ListN.{length, take}
-use Rattle.words.specs.Lists.{In, lastOf}
+use Rattle.words.specs.Lists.{In, lastOf, Head, Adj}
 use Rattle.words.specs.Positions.{post}
-use Rattle.words.proofs.Lists.{Head, Adj, Once, adj-cases, adj-turn, once-next, first-alone, last-alone, last-append, head-one}
+use Rattle.words.proofs.Lists.{Once, adj-cases, adj-turn, once-next, first-alone, last-alone, last-append, head-one}
 use Rattle.words.proofs.Tests.{different-once, once-different}
 use Rattle.rings.specs.Rings.{ring, around}
 use Rattle.rings.specs.Plane.{Plane}

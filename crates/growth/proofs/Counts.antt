@@ -8,15 +8,14 @@ use lib.ListN.{length, take}
 use lib.Seq.{take-length}
 use Rattle.words.specs.Numbers.{sumOf}
 use Rattle.words.specs.Lists.{In}
-use Rattle.words.proofs.Lists.{Once, in-left, in-right, in-cases, in-dec, cut-at, once-without, all-there}
+use Rattle.words.proofs.Lists.{Once, in-left, in-right, in-cases, in-dec, cut-at, once-without, all-there, filled}
 use Rattle.rings.specs.Rings.{ring, around}
 use Rattle.rings.proofs.Around.{After, around-in, around-next}
 use Rattle.rings.proofs.Says.{Faces, entry-below, entry-other, entry-returned, ring-once}
 use Rattle.order.proofs.Contour.{Rings}
 use Rattle.order.proofs.Runs.{rings}
-use Rattle.growth.proofs.Sums.{flag, flag-yes, flag-no, flag-same, sum, sum-same, sum-zero, sum-hit, sum-one-off, sum-cut}
-use Rattle.growth.proofs.Sums.{darts, corners, cornersAt, darts-more, corners-more}
-use Rattle.growth.proofs.Walks.{adj-dec, filled}
+use Rattle.growth.proofs.Sums.{flag, flag-yes, flag-no, flag-same, sum, sum-same, sum-zero, sum-hit, sum-one-off, sum-cut, darts, corners, cornersAt, darts-more, corners-more}
+use Rattle.growth.proofs.Walks.{adj-dec}
 
 -- the posts of a list: each a post, and each once
 pub record Chosen (n : ℕ) (S : List ℕ) : Type 0 where

@@ -10,7 +10,7 @@ use native.Mathlib.Decide.{decLt, ℕ-discrete}
 use lib.ListN.{length, getD, take}
 use Rattle.words.specs.Lists.{In}
 use Rattle.words.specs.Positions.{post}
-use Rattle.words.proofs.Lists.{Once, in-dec, all-there}
+use Rattle.words.proofs.Lists.{Once, in-dec, all-there, filled}
 use Rattle.words.proofs.Tests.{in-place, place-in, once-different, different-once}
 use Rattle.words.proofs.Positions.{in-take, take-in, earlier-in, later-in, later-new}
 use Rattle.rings.specs.Rings.{ring, around}
@@ -24,7 +24,7 @@ use Rattle.order.proofs.Tests.{run-says}
 use Rattle.order.proofs.Growth.{Names}
 use Rattle.growth.specs.Forced.{Bridging, TwoEach}
 use Rattle.growth.proofs.Sums.{sum, flag-yes, flag-no, darts, corners, cornersAt}
-use Rattle.growth.proofs.Walks.{adj-dec, filled, OneWay, ring-leave, leave-run}
+use Rattle.growth.proofs.Walks.{adj-dec, OneWay, ring-leave, leave-run}
 use Rattle.growth.proofs.Counts.{Chosen, w, t, D, C, D-more, C-more, least, leaves-once, leaves-most, total-corners, total-darts}
 
 -- the first k posts, the latest first

@@ -120,16 +120,16 @@ data Hidden : ℕ → ℕ → ℕ → Type 0 where
   c2 : Hidden 3 2 1
   c3 : Hidden 2 1 3
 
-turned : {u v w : ℕ} → Hidden u v w → Hidden v w u
-turned a1 = a2
-turned a2 = a3
-turned a3 = a1
-turned b1 = b2
-turned b2 = b3
-turned b3 = b1
-turned c1 = c2
-turned c2 = c3
-turned c3 = c1
+hidden-turn : {u v w : ℕ} → Hidden u v w → Hidden v w u
+hidden-turn a1 = a2
+hidden-turn a2 = a3
+hidden-turn a3 = a1
+hidden-turn b1 = b2
+hidden-turn b2 = b3
+hidden-turn b3 = b1
+hidden-turn c1 = c2
+hidden-turn c2 = c3
+hidden-turn c3 = c1
 
 one-next : (u a b c : ℕ) → After listsD u a b → After listsD u a c → b ≡ c
 one-next = rings listsD faces-D .next-one
@@ -148,7 +148,7 @@ crossed {x = x} c3 n f = subst (Hidden 1 2) (one-next 1 2 0 x (inr (inr (inl (re
 
 in-hidden : {u v w : ℕ} → Face listsD three 0 1 2 u v w → Hidden u v w
 in-hidden same = a1
-in-hidden (turn f) = turned (in-hidden f)
+in-hidden (turn f) = hidden-turn (in-hidden f)
 in-hidden (cross {u} {v} {w} {x} f n g) = crossed (in-hidden f) n (follows-after listsD v u x g)
 
 pub autumn-triangle : Triangular listsD (0 ∷ 1 ∷ 3 ∷ []) 0 1 2

@@ -13,7 +13,7 @@ use Rattle.block.specs.Block.{posts, order, lists}
 use Rattle.rings.specs.Rings.{ringRule, triangleRule, outerRule}
 use Rattle.rings.specs.Held.{held}
 use Rattle.order.specs.Order.{twoPlaced, oneRun}
-use Rattle.order.specs.Held.{fitOf}
+use Rattle.order.specs.Ranked.{fitOf}
 use Rattle.order.specs.declared.Fit.{Fit}
 use Rattle.order.specs.declared.Fit.the-variants.{Good, Few, Broken}
 use Rattle.lamp.specs.Lamp.{blockRows, positionRows, ringFault, triangleFault}

@@ -12,7 +12,7 @@ use Rattle.words.proofs.Numbers.{words-length}
 use Rattle.block.specs.Layout.{limit, entries}
 use Rattle.block.specs.Block.{posts, order, lists, badEntry}
 use Rattle.rings.specs.Rings.{ringRule}
-use Rattle.order.specs.Held.{Ranked}
+use Rattle.order.specs.Ranked.{Ranked}
 use Rattle.lamp.specs.Lamp.{Row, blockRows, checkRows, ringFault}
 use Rattle.lamp.specs.Given.{Reply, accepted, refused, given, checkReply, NoneApplies}
 use Rattle.lamp.specs.Held.{headRows, listRows, ringRows, rowsFrom, Headed, Holds, Laid, Entered, Ringed, Ready}

@@ -9,7 +9,7 @@ use Rattle.block.specs.Layout.{limit, entries, size}
 use Rattle.block.specs.Block.{posts, order, lists, badEntry}
 use Rattle.rings.specs.Rings.{ringRule}
 use Rattle.rings.specs.Held.{held, Cuts}
-use Rattle.order.specs.Held.{Ranked}
+use Rattle.order.specs.Ranked.{Ranked}
 use Rattle.lamp.specs.Lamp.{Row, blockRows, positionRows}
 
 -- the table's rows in the parts in which the code tries them: 1 to 6, 7 and 8, 9 to 11; and 12 and 13 at the positions from k on

@@ -5,7 +5,7 @@ ghost use Prim.Native.Nat.{ℕ, _+_, _≤_};
 ghost use lib.ListN.{length};
 ghost use Rattle.block.specs.Layout.{limit};
 ghost use Rattle.block.specs.Block.{posts, order};
-ghost use Rattle.order.specs.Held.{Ranked};
+ghost use Rattle.order.specs.Ranked.{Ranked};
 ghost use Rattle.lamp.specs.Lamp.{positionRows};
 ghost use Rattle.lamp.specs.Given.{accepted, given, checkReply};
 ghost use Rattle.lamp.specs.Refusals.{numberOf, placeOf, replyOf};

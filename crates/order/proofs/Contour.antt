@@ -3,8 +3,8 @@ use mathlib.Core.Path.{_≡_, refl, sym, ap, _∙_}
 use mathlib.Core.Logic.{inl, inr}
 use Prim.Native.Nat.{ℕ}
 use mathlib.Core.List.{List, [], _∷_, _++_, append-assoc}
-use Rattle.words.specs.Lists.{In, lastOf}
-use Rattle.words.proofs.Lists.{Head, Adj, Once, head-same, in-right, in-turn, in-dec, cut-at, adj-in-left, adj-in-right, adj-right, adj-left, adj-cases, stretch, head-one, head-is, swap-in, swap-once, once-next, last-append, before-last}
+use Rattle.words.specs.Lists.{In, lastOf, Head, Adj}
+use Rattle.words.proofs.Lists.{Once, head-same, in-right, in-turn, in-dec, cut-at, adj-in-left, adj-in-right, adj-right, adj-left, adj-cases, stretch, head-one, head-is, swap-in, swap-once, once-next, last-append, before-last}
 
 -- What the rings give. `F u a b`: b follows a at u.
 pub record Rings (F : ℕ → ℕ → ℕ → Type 0) : Type 0 where
@@ -34,7 +34,8 @@ pub record Contour (F : ℕ → ℕ → ℕ → Type 0) (v1 v2 : ℕ) (done K : 
   pub edge : (a b c : ℕ) → In a done → In b done → ¬ (In c done) → F a b c → Adj (v2 ∷ K) a b
 
 -- only which posts are placed matters, and not in what order they are listed
-pub same-placed : (F : ℕ → ℕ → ℕ → Type 0) (v1 v2 : ℕ) (done now K : List ℕ) → ((a : ℕ) → In a done → In a now) → ((a : ℕ) → In a now → In a done) → Contour F v1 v2 done K → Contour F v1 v2 now K
+pub same-placed : (F : ℕ → ℕ → ℕ → Type 0) (v1 v2 : ℕ) (done now K : List ℕ) → ((a : ℕ) → In a done → In a now) → ((a : ℕ) → In a now → In a done)
+    → Contour F v1 v2 done K → Contour F v1 v2 now K
 same-placed F v1 v2 done now K to back C = record {
   first = C .first;
   last = C .last;
@@ -70,7 +71,8 @@ module _ (F : ℕ → ℕ → ℕ → Type 0) (v1 v2 vn : ℕ) (R : Rings F) (ou
     -- neighbours of a run are neighbours on the contour
     pub run-edge : (K : List ℕ) → Contour F v1 v2 done K → ¬ (Adj (p ∷ (M ++ q ∷ [])) v2 v1) → (a b : ℕ) → Adj (p ∷ (M ++ q ∷ [])) a b → Adj K a b
     run-edge K C cut a b h =
-        go (C .edge a b v (U .placed a (adj-in-left a b (p ∷ (M ++ q ∷ [])) h)) (U .placed b (adj-in-right a b (p ∷ (M ++ q ∷ [])) h)) new (R .triangle v a b (U .chain a b h)))
+        go (C .edge a b v (U .placed a (adj-in-left a b (p ∷ (M ++ q ∷ [])) h)) (U .placed b (adj-in-right a b (p ∷ (M ++ q ∷ [])) h)) new
+        (R .triangle v a b (U .chain a b h)))
       where
         go : Adj (v2 ∷ K) a b → Adj K a b
         go (inl e) = absurd (cut (rw (e .0, head-one K v1 b (C .first) (e .1)) h))

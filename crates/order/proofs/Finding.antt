@@ -6,15 +6,12 @@ use mathlib.Core.Logic.{_⊎_, inl, inr}
 use mathlib.Core.Bool.{Bool, true, not, cond, _&&_}
 use mathlib.Core.List.{List, [], _∷_, _++_}
 use native.Mathlib.Omega.{arith}
-use native.Mathlib.Decide.{decLt}
-use lib.Dec.{ltb}
 use lib.ListN.{length, getD, take, drop, length-append, take-append-drop}
 use lib.Seq.{getD-take}
-use borrow.Author.Tests.{lt-ltb, le-ltb}
-use Rattle.words.specs.Lists.{In, mem, count, lastOf}
+use Rattle.words.specs.Lists.{In, mem, count, lastOf, Adj}
 use Rattle.words.specs.Positions.{post, earlier}
-use Rattle.words.proofs.Lists.{Head, Adj, Once, in-dec, last-in}
-use Rattle.words.proofs.Tests.{is-true, is-false, in-mem, mem-in, in-place, place-in, once-different, count-all}
+use Rattle.words.proofs.Lists.{Once, in-dec, last-in, adj-more}
+use Rattle.words.proofs.Tests.{is-true, is-false, in-mem, mem-in, in-place, place-in, count-all}
 use Rattle.words.proofs.Positions.{post-new, earlier-next}
 use Rattle.rings.specs.Rings.{ring, around}
 use Rattle.rings.proofs.Around.{After, around-in}
@@ -24,7 +21,7 @@ use Rattle.order.specs.Order.{run, from, oneRun}
 use Rattle.order.proofs.Contour.{Contour}
 use Rattle.order.proofs.Growth.{Grown, run-near}
 use Rattle.order.proofs.Runs.{whole-is-last}
-use Rattle.order.proofs.Found.{run-after-length, run-at-v1, from-inside}
+use Rattle.order.proofs.Begins.{run-after-length, run-at-v1, from-inside}
 use Rattle.order.proofs.Starts.{startsAt}
 use Rattle.rings.specs.Plane.{Plane}
 use Rattle.order.specs.Fitting.{FitsSoFar}
@@ -88,19 +85,11 @@ adj-last : (y : ℕ) (l : List ℕ) (z : ℕ) → Adj ((y ∷ l) ++ z ∷ []) (l
 adj-last y [] z = inl (refl, refl)
 adj-last y (x ∷ l) z = inr (adj-last x l z)
 
-adj-more : (l : List ℕ) (z a b : ℕ) → Adj l a b → Adj (l ++ z ∷ []) a b
-adj-more [] z a b h = absurd h
-adj-more (x ∷ l) z a b (inl h) = inl (h .0, head l (h .1))
-  where
-    head : (l : List ℕ) → Head l b → Head (l ++ z ∷ []) b
-    head [] h = absurd h
-    head (x ∷ l) h = h
-adj-more (x ∷ l) z a b (inr h) = inr (adj-more l z a b h)
-
 around-adj : (y : ℕ) (l : List ℕ) (a b : ℕ) → Adj (lastOf y l ∷ y ∷ l) a b → Adj (around (y ∷ l)) a b
 unfolding around
-around-adj y l a b (inl h) = subst (λ (c : ℕ). Adj ((y ∷ l) ++ y ∷ []) a c) (h .1) (subst (λ (c : ℕ). Adj ((y ∷ l) ++ y ∷ []) c y) (h .0) (adj-last y l y))
-around-adj y l a b (inr h) = adj-more (y ∷ l) y a b h
+around-adj y l a b (inl h) =
+    subst (λ (c : ℕ). Adj ((y ∷ l) ++ y ∷ []) a c) (h .1) (subst (λ (c : ℕ). Adj ((y ∷ l) ++ y ∷ []) c y) (h .0) (adj-last y l y))
+around-adj y l a b (inr h) = adj-more a b (y ∷ l) y h
 
 from-length : (s : ℕ) (l : List ℕ) → length (from s l) ≡ length l
 unfolding from

@@ -3,7 +3,7 @@ pub mod Contour
 pub mod Tests
 pub mod Runs
 pub mod Starts
-pub mod Found
+pub mod Begins
 pub mod Growth
 pub mod Sound
 pub mod Fitting

@@ -1,7 +1,6 @@
 -- The run of the next post, from what the code reads of its ring.
 use Prim.Native.Nat.{ℕ, suc, _+_, _-_, _≤_, _<_}
 use mathlib.Core.Path.{_≡_, refl, ap, sym, _∙_, subst, subst⁻¹}
-use mathlib.Core.Logic.{inl}
 use mathlib.Core.Bool.{Bool}
 use mathlib.Core.List.{List, [], _∷_}
 use native.Mathlib.Omega.{arith}
@@ -16,7 +15,7 @@ use Rattle.rings.proofs.Held.{held-length, held-part}
 use Rattle.rings.proofs.Turns.{part-at}
 use Rattle.rings.proofs.Says.{entry-below}
 use Rattle.order.specs.Order.{run}
-use Rattle.order.specs.Held.{RankedEntries}
+use Rattle.order.specs.Ranked.{RankedEntries}
 use Rattle.order.specs.Opens.{before, opens}
 use Rattle.order.specs.Fitted.{Fitted}
 use Rattle.order.proofs.Fitting.{fits-faces}

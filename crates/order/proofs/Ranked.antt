@@ -18,7 +18,7 @@ use Rattle.block.specs.Block.{badEntry}
 use Rattle.rings.specs.Rings.{around}
 use Rattle.rings.proofs.Turns.{pair-here, pair-next, around-here, around-after, around-first}
 use Rattle.order.specs.Opens.{before}
-use Rattle.order.specs.Held.{RankedBelow, Ranked, Names, RankedEntries, starts}
+use Rattle.order.specs.Ranked.{RankedBelow, Ranked, NamesBelow, RankedEntries, starts}
 use Rattle.order.proofs.Sound.{position-says, order-below, order-once}
 use Rattle.order.proofs.Starts.{starts-last}
 
@@ -66,7 +66,8 @@ module _ (vs rank : List ℕ) (room : length vs ≤ length rank) (good : (k : �
       go : Dec (j ≡ k) → getD (set rank a k) (post vs j) 0 ≡ j
       go (yes e) = rw (is, e) (getD-set-same rank (post vs k) k 0 (omega (arith, says .0)))
       go (no n) =
-          rw is (getD-set-other rank (post vs k) (post vs j) k 0 (λ e. says .1 (earlier-in vs k (post vs k) (omega arith) (j, h, omega arith, e)))) ∙ r j h (omega arith)
+          rw is (getD-set-other rank (post vs k) (post vs j) k 0 (λ e. says .1 (earlier-in vs k (post vs k) (omega arith) (j, h, omega arith, e))))
+          ∙ r j h (omega arith)
 
   -- the list names each post, so none is beyond it
   pub ranked : RankedTo vs rank (length vs + 1) → Ranked vs rank
@@ -81,17 +82,18 @@ module _ (vs rank : List ℕ) (room : length vs ≤ length rank) (good : (k : �
 -- ---- counting the beginnings of runs
 
 module _ (placed l : List ℕ) (b e i : ℕ) (h : b ≤ i) (k : i < e) (m : e ≤ length l) where
-  pub starts-turn : starts placed (drop (i - b) (around (slice b e l)))
-      ≡ cond (not (mem placed (getD (around (slice b e l)) (i - b) 0)) && mem placed (getD (around (slice b e l)) (i - b + 1) 0)) 1 0 + starts placed (drop (i + 1 - b) (around (slice b e l)))
+  pub starts-step : starts placed (drop (i - b) (around (slice b e l)))
+      ≡ cond (not (mem placed (getD (around (slice b e l)) (i - b) 0)) && mem placed (getD (around (slice b e l)) (i - b + 1) 0)) 1 0
+      + starts placed (drop (i + 1 - b) (around (slice b e l)))
   unfolding starts
-  starts-turn = rw (pair-here l b e i h k m, pair-next l b e i h k m) refl
+  starts-step = rw (pair-here l b e i h k m, pair-next l b e i h k m) refl
 
 pub starts-done : (placed l : List ℕ) (b e : ℕ) → b ≤ e → e ≤ length l → starts placed (drop (e - b) (around (slice b e l))) ≡ 0
 starts-done placed l b e h m = starts-last placed (slice b e l) (e - b) (length-slice b e l m)
 
 -- ---- whether a run begins after place i
 
-module _ (ents : List ℕ) (b e i n : ℕ) (h : b ≤ i) (l : i < e) (m : e ≤ length ents) (names : Names ents b e n) where
+module _ (ents : List ℕ) (b e i n : ℕ) (h : b ≤ i) (l : i < e) (m : e ≤ length ents) (names : NamesBelow ents b e n) where
   pub after-name : getD (around (slice b e ents)) (i - b + 1) 0 < n
   after-name = go (decLt (i + 1) e)
     where

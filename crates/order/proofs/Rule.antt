@@ -17,7 +17,7 @@ use Rattle.rings.proofs.Held.{held-length, held-part}
 use Rattle.rings.proofs.Turns.{part-at}
 use Rattle.rings.proofs.Says.{ring-says}
 use Rattle.order.specs.Order.{twoPlaced, oneRun}
-use Rattle.order.specs.Held.{Names, RankedEntries, Listed, starts, fitOf}
+use Rattle.order.specs.Ranked.{NamesBelow, RankedEntries, Listed, starts, fitOf}
 use Rattle.order.specs.declared.Fit.{Fit}
 use Rattle.order.specs.declared.Fit.the-variants.{Good, Few, Broken}
 use Rattle.order.proofs.Starts.{one-run-starts, starts-one-run}
@@ -38,7 +38,7 @@ module _ (at ents vs rank : List ℕ) (L : Listed at ents vs rank) (k v b e : �
       within : e ≤ length ents
       within = omega (arith, L .cuts .within (v + 1) has-ring)
 
-      names : Names ents b e (length (held at ents))
+      names : NamesBelow ents b e (length (held at ents))
       names i f g =
           let a : In (getD (slice b e ents) (i - b) 0) (slice b e ents) = place-in (slice b e ents) (i - b) (omega (arith, length-slice b e ents within)) in
           let j : In (getD ents i 0) (ring (held at ents) (post vs k)) = rw is (rw (part-at ents b e i f g within) at a) in

@@ -10,10 +10,10 @@ use lib.Dec.{T, eqb, eqb→eq, eqb-refl, leb→le, T-not}
 use lib.ListN.{length, getD, take, drop, length-append, take-append-drop}
 use lib.Seq.{getD-at, drop-cons}
 use Rattle.words.specs.First.{first}
-use Rattle.words.specs.Lists.{In, mem, allOf, count}
+use Rattle.words.specs.Lists.{In, mem, allOf, count, Adj}
 use Rattle.words.specs.Positions.{post}
 use Rattle.words.proofs.First.{some-found, first-found}
-use Rattle.words.proofs.Lists.{Adj, Once, in-left, in-cases, in-turn, cut-at, adj-left, adj-right, adj-cases, adj-init, adj-tail, adj-in-left, adj-in-right, once-turn}
+use Rattle.words.proofs.Lists.{Once, in-left, in-cases, in-turn, cut-at, adj-left, adj-right, adj-cases, adj-init, adj-tail, adj-in-left, adj-in-right, once-turn}
 use Rattle.words.proofs.Tests.{holds, is-true, either, or-left, or-right, mem-in, in-mem, all-says, says-all, count-append, count-length, count-none}
 use Rattle.rings.specs.Rings.{ring, around}
 use Rattle.rings.proofs.Around.{After, around-one, around-in, around-next, around-cut, around-turn}
@@ -42,7 +42,8 @@ two-ends (p ∷ []) h = absurd (omega arith)
 two-ends (p ∷ m ∷ l) h = let t = ends p m l in (p, t .0, t .1, t .2)
 
 -- a ring that reads p ∷ (M ++ q ∷ []), all placed, and then Z, none placed
-module _ (placed : List ℕ) (p : ℕ) (M : List ℕ) (q : ℕ) (Z : List ℕ) (in-run : (a : ℕ) → In a (p ∷ (M ++ q ∷ [])) → In a placed) (off : (a : ℕ) → In a Z → ¬ (In a placed)) where
+module _ (placed : List ℕ) (p : ℕ) (M : List ℕ) (q : ℕ) (Z : List ℕ) (in-run : (a : ℕ) → In a (p ∷ (M ++ q ∷ [])) → In a placed)
+    (off : (a : ℕ) → In a Z → ¬ (In a placed)) where
   split-starts : (b c : ℕ) → Adj (p ∷ (M ++ q ∷ (Z ++ p ∷ []))) b c → ¬ (In b placed) → In c placed → c ≡ p
   split-starts b c h nb hc = adj-cases b c (p ∷ M) q (Z ++ p ∷ []) (λ i. absurd (nb (in-run b (adj-in-left b c (p ∷ (M ++ q ∷ [])) i)))) go h
     where
@@ -82,7 +83,8 @@ module _ (G : List (List ℕ)) (placed : List ℕ) (v : ℕ) where
       → (p : ℕ) × (M : List ℕ) × (q : ℕ) × (l ≡ p ∷ (M ++ q ∷ [])) × Run (After G) placed v p M q
   run-of l Z h on off to back = go (two-ends l h)
     where
-      go : (p : ℕ) × (M : List ℕ) × (q : ℕ) × (l ≡ p ∷ (M ++ q ∷ [])) → (p : ℕ) × (M : List ℕ) × (q : ℕ) × (l ≡ p ∷ (M ++ q ∷ [])) × Run (After G) placed v p M q
+      go : (p : ℕ) × (M : List ℕ) × (q : ℕ) × (l ≡ p ∷ (M ++ q ∷ []))
+          → (p : ℕ) × (M : List ℕ) × (q : ℕ) × (l ≡ p ∷ (M ++ q ∷ [])) × Run (After G) placed v p M q
       go t =
           let p = t .0 in let M = t .1 in let q = t .2 in
           let e : around (l ++ Z) ≡ p ∷ (M ++ q ∷ (Z ++ p ∷ [])) =
@@ -177,7 +179,8 @@ module _ (G : List (List ℕ)) (F : Faces G) (v1 v2 vn : ℕ) (outer : After G v
         split = sym (lead-rest placed (Y ++ X)) ∙ ap (λ (r : List ℕ). r ++ Z) el
 
         first-is : getD (ring G v) s 0 ≡ p
-        first-is = let e : getD (ring G v) s 0 ∷ (drop (suc s) (ring G v) ++ X) ≡ p ∷ ((M ++ q ∷ []) ++ Z) = ap (λ (r : List ℕ). r ++ X) (sym (drop-cons (ring G v) s 0 h)) ∙ split in cc
+        first-is = let e : getD (ring G v) s 0 ∷ (drop (suc s) (ring G v) ++ X) ≡ p ∷ ((M ++ q ∷ []) ++ Z) =
+            ap (λ (r : List ℕ). r ++ X) (sym (drop-cons (ring G v) s 0 h)) ∙ split in cc
 
         p-in : In p (ring G v)
         p-in = from-out s (ring G v) p (rw split (inl refl))
@@ -195,7 +198,8 @@ module _ (G : List (List ℕ)) (F : Faces G) (v1 v2 vn : ℕ) (outer : After G v
             o .0 (in-left p (M ++ q ∷ []) Z (rw ep (adj-tail v2 v1 p (M ++ q ∷ []) i)))) b
 
     begins-run : (s : ℕ) → s < length (ring G v) → T (begins G placed v s)
-        → (p : ℕ) × (M : List ℕ) × (q : ℕ) × (lead placed (from s (ring G v)) ≡ p ∷ (M ++ q ∷ [])) × Run (After G) placed v p M q × ¬ (Adj (p ∷ (M ++ q ∷ [])) v2 v1)
+        → (p : ℕ) × (M : List ℕ) × (q : ℕ) × (lead placed (from s (ring G v)) ≡ p ∷ (M ++ q ∷ [])) × Run (After G) placed v p M q
+        × ¬ (Adj (p ∷ (M ++ q ∷ [])) v2 v1)
     unfolding twoPlaced from
     begins-run s h t =
         let b = begins-says G placed v s t in
@@ -210,7 +214,8 @@ module _ (G : List (List ℕ)) (F : Faces G) (v1 v2 vn : ℕ) (outer : After G v
         record { p = r .0; M = r .1; q = r .2; run-is = r .3; the-run = r .4; no-turn = r .5 }
 
   -- a new post with a neighbour, all of whose neighbours are placed, is vn
-  pub whole-is-last : (placed K : List ℕ) (v : ℕ) → Contour (After G) v1 v2 placed K → ¬ (In v placed) → (x : ℕ) → In x (ring G v) → ((a : ℕ) → In a (ring G v) → In a placed) → v ≡ vn
+  pub whole-is-last : (placed K : List ℕ) (v : ℕ) → Contour (After G) v1 v2 placed K → ¬ (In v placed) → (x : ℕ) → In x (ring G v)
+      → ((a : ℕ) → In a (ring G v) → In a placed) → v ≡ vn
   whole-is-last placed K v C new x h all =
       let b = around-next (ring G v) x h in
       full-is-last (After G) v1 v2 vn (rings G F) outer placed K C v new (λ a b f. all a (around-in (ring G v) a b f .0)) x (b .0) (b .1)

@@ -14,8 +14,8 @@ use borrow.Author.Tests.{leb-false, lt-leb, le-ltb}
 use Rattle.words.specs.Numbers.{sumOf}
 use Rattle.words.specs.Lists.{In, Different, mem}
 use Rattle.words.specs.Positions.{post, earlier}
-use Rattle.words.proofs.Lists.{in-cases, all-there, once-length}
-use Rattle.words.proofs.Tests.{is-false, fails, neither, mem-in, in-mem, place-in, in-place, different-once, once-different}
+use Rattle.words.proofs.Lists.{in-cases, all-there, once-length, filled}
+use Rattle.words.proofs.Tests.{fails, neither, in-mem, mem-false, place-in, in-place, different-once, once-different}
 use Rattle.words.proofs.Positions.{take-in, earlier-in, post-new}
 use Rattle.block.specs.Block.{badEntry, badDegree}
 use Rattle.rings.specs.Rings.{ring, around, ringRule, triangleRule, outerRule}
@@ -58,7 +58,8 @@ module _ (n : ℕ) (vs : List ℕ) where
   pub says-position : (k : ℕ) → post vs k < n → ¬ (In (post vs k) (earlier vs k)) → badEntry n vs k ≡ false
   unfolding badEntry
   says-position k h i =
-      false-or (leb n (post vs k)) (mem (earlier vs k) (post vs k)) (lt-leb n (post vs k) h) (is-false (mem (earlier vs k) (post vs k)) (λ t. i (mem-in (earlier vs k) (post vs k) t)))
+      false-or (leb n (post vs k)) (mem (earlier vs k) (post vs k)) (lt-leb n (post vs k) h)
+      (mem-false (earlier vs k) (post vs k) i)
 
   module _ (good : (k : ℕ) → 1 ≤ k → k ≤ length vs → badEntry n vs k ≡ false) where
     at : (i : ℕ) → i < length vs → (getD vs i 0 < n) × ¬ (In (getD vs i 0) (take i vs))
@@ -90,12 +91,15 @@ module _ (G : List (List ℕ)) (u : ℕ) where
   unfolding badDegree
   says-degree a b =
       let e = degree-is in
-      false-or (ltb (getD (map length G) u 0) 2) (ltb (length G - 1) (getD (map length G) u 0)) (le-ltb (getD (map length G) u 0) 2 (omega arith)) (le-ltb (length G - 1) (getD (map length G) u 0) (omega arith))
+      false-or (ltb (getD (map length G) u 0) 2) (ltb (length G - 1) (getD (map length G) u 0)) (le-ltb (getD (map length G) u 0) 2 (omega arith))
+      (le-ltb (length G - 1) (getD (map length G) u 0) (omega arith))
 
   -- a ring of different names below n, other than u, has at most n-1 entries
   pub degree-most : Faces G → u < length G → length (ring G u) ≤ length G - 1
   degree-most F h =
-      let t = once-length (length G) (u ∷ ring G u) ((λ i. entry-other G F u u i refl), ring-once G F u h) (λ a. elim [ inl e ↦ rw e h | inr i ↦ entry-below G F u a i ]) in
+      let t =
+      once-length (length G) (u ∷ ring G u) ((λ i. entry-other G F u u i refl), ring-once G F u h)
+      (λ a. elim [ inl e ↦ rw e h | inr i ↦ entry-below G F u a i ]) in
       omega arith
 
   -- and one that has an entry has two: a ring of one entry a would put a into its own ring
@@ -111,8 +115,10 @@ module _ (G : List (List ℕ)) (u : ℕ) where
       go (a ∷ b ∷ l) e h = omega arith
 
 -- ---- every post is reached from v1
-module _ (G : List (List ℕ)) (vs : List ℕ) (F : Faces G) (bottom : In (post vs 2) (ring G (post vs 1))) (two : (k : ℕ) → 3 ≤ k → k ≤ length vs → Two G vs k (post vs k)) where
-  reached-by : (k : ℕ) → k < length vs → ((a : ℕ) → In a (take k vs) → Reached G (post vs 1) a) → Two G vs (suc k) (post vs (suc k)) → Reached G (post vs 1) (getD vs k 0)
+module _ (G : List (List ℕ)) (vs : List ℕ) (F : Faces G) (bottom : In (post vs 2) (ring G (post vs 1)))
+    (two : (k : ℕ) → 3 ≤ k → k ≤ length vs → Two G vs k (post vs k)) where
+  reached-by : (k : ℕ) → k < length vs → ((a : ℕ) → In a (take k vs) → Reached G (post vs 1) a) → Two G vs (suc k) (post vs (suc k))
+      → Reached G (post vs 1) (getD vs k 0)
   reached-by k h r W =
       let e : suc k - 1 ≡ k = omega arith in
       let i : In (W .a) (take k vs) = rw e at (earlier-in vs (suc k) (W .a) (omega arith) (W .earlier-a)) in
@@ -219,13 +225,9 @@ module _ (G : List (List ℕ)) (vs : List ℕ) where
         two = λ k a b. says-two G vs k (post vs k) (omega arith) (C .two k a (omega arith));
         run = λ k a b.
             let W = C .two k a (omega arith) in
-            says-run G vs k (post vs k) (omega arith) (some-length (ring G (post vs k)) (W .a) (W .near-a)) (C .run k a (omega arith));
+            says-run G vs k (post vs k) (omega arith) (filled (ring G (post vs k)) (W .a) (W .near-a)) (C .run k a (omega arith));
       }
     where
-      some-length : (l : List ℕ) (a : ℕ) → In a l → 0 < length l
-      some-length [] a h = absurd h
-      some-length (x ∷ l) a h = omega arith
-
       -- a reached post has a neighbour
       some-near : (v1 u : ℕ) → Plane G v1 (post vs 2) (post vs (length G)) → u < length G → (x : ℕ) × In x (ring G u)
       some-near v1 u P h = go (P .connected u h)

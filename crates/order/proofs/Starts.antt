@@ -1,20 +1,19 @@
--- Starts of runs in a ring, counted: what a loop over its places finds, and that there is one run exactly if there is at most one start.
+-- Starts of runs in a ring, counted: there is one run exactly if there is at most one start.
 use mathlib.Core.Path.{_≡_, refl, sym, ap, _∙_}
 use mathlib.Core.Bool.{Bool, true, false, not, cond, _&&_, _||_}
 use mathlib.Core.List.{List, [], _∷_, _++_, append-assoc, append-nil}
-use Prim.Native.Nat.{ℕ, zero, suc, _+_, _≤_, _<_}
+use Prim.Native.Nat.{ℕ, _+_, _≤_, _<_}
 use native.Mathlib.Omega.{arith}
 use lib.Dec.{T, T-not, not-T}
 use lib.ListN.{length, getD, take, drop, length-append, take-append-drop}
-use lib.Seq.{drop-cons, drop-at}
-use Rattle.words.specs.First.{numbers}
-use Rattle.words.specs.Lists.{mem, anyOf, count}
+use lib.Seq.{drop-at}
+use Rattle.words.specs.Lists.{mem, anyOf}
 use Rattle.words.proofs.First.{some-true, some-found}
 use Rattle.words.proofs.Tests.{holds, is-true, either}
 use Rattle.rings.specs.Rings.{ring, around}
 use Rattle.rings.proofs.Around.{around-cut}
-use Rattle.rings.proofs.Places.{after, around-at}
-use Rattle.order.specs.Held.{starts}
+use Rattle.rings.proofs.Places.{after}
+use Rattle.order.specs.Ranked.{starts}
 use Rattle.order.specs.Order.{from, rest, leads, oneRun}
 use Rattle.order.proofs.Tests.{from-at, from-start}
 
@@ -29,7 +28,13 @@ module _ (placed : List ℕ) where
   starts-turn [] Y = rw append-nil
   starts-turn (x ∷ X) [] = rw append-nil
   starts-turn (x ∷ X) (y ∷ Y) =
-      omega (arith, ap (starts placed) (around-cut x X (y ∷ Y)), ap (starts placed) (around-cut y Y (x ∷ X)), starts-cut (x ∷ X) y (Y ++ x ∷ []), starts-cut (y ∷ Y) x (X ++ y ∷ []))
+      omega (
+        arith,
+        ap (starts placed) (around-cut x X (y ∷ Y)),
+        ap (starts placed) (around-cut y Y (x ∷ X)),
+        starts-cut (x ∷ X) y (Y ++ x ∷ []),
+        starts-cut (y ∷ Y) x (X ++ y ∷ []),
+      )
 
   waiting-on : (x : ℕ) (l : List ℕ) → ¬ (T (mem placed x)) → starts placed (x ∷ l) ≡ 0 → T (not (anyOf (mem placed) (x ∷ l)))
   unfolding starts anyOf
@@ -59,7 +64,8 @@ module _ (placed : List ℕ) where
   none-starts (x ∷ []) t = refl
   none-starts (x ∷ y ∷ l) t = go (mem placed x) (mem placed y) t (none-starts (y ∷ l))
     where
-      go : (b c : Bool) → T (not (b || (c || anyOf (mem placed) l))) → (T (not (c || anyOf (mem placed) l)) → starts placed (y ∷ l) ≡ 0) → cond (not b && c) 1 0 + starts placed (y ∷ l) ≡ 0
+      go : (b c : Bool) → T (not (b || (c || anyOf (mem placed) l))) → (T (not (c || anyOf (mem placed) l)) → starts placed (y ∷ l) ≡ 0)
+          → cond (not b && c) 1 0 + starts placed (y ∷ l) ≡ 0
       go true c t k = absurd t
       go false true t k = absurd t
       go false false t k = let e = k t in omega arith
@@ -69,7 +75,8 @@ module _ (placed : List ℕ) where
   rest-starts [] e = tt
   rest-starts (x ∷ l) e = go (mem placed x) (λ t. sym (placed-on x l t) ∙ e) (λ n. waiting-on x l n e) (rest-starts l)
     where
-      go : (b : Bool) → (T b → starts placed l ≡ 0) → (¬ (T b) → T (not (anyOf (mem placed) (x ∷ l)))) → (starts placed l ≡ 0 → T (leads placed l)) → T (not (anyOf (mem placed) (cond b (rest placed l) (x ∷ l))))
+      go : (b : Bool) → (T b → starts placed l ≡ 0) → (¬ (T b) → T (not (anyOf (mem placed) (x ∷ l)))) → (starts placed l ≡ 0 → T (leads placed l))
+          → T (not (anyOf (mem placed) (cond b (rest placed l) (x ∷ l))))
       go true f g k = k (f tt)
       go false f g k = g (λ t. t)
 
@@ -78,7 +85,8 @@ module _ (placed : List ℕ) where
   starts-rest [] t = refl
   starts-rest (x ∷ l) t = go (mem placed x) (placed-on x l) t (starts-rest l)
     where
-      go : (b : Bool) → (T b → starts placed (x ∷ l) ≡ starts placed l) → T (not (anyOf (mem placed) (cond b (rest placed l) (x ∷ l)))) → (T (leads placed l) → starts placed l ≡ 0) → starts placed (x ∷ l) ≡ 0
+      go : (b : Bool) → (T b → starts placed (x ∷ l) ≡ starts placed l) → T (not (anyOf (mem placed) (cond b (rest placed l) (x ∷ l))))
+          → (T (leads placed l) → starts placed l ≡ 0) → starts placed (x ∷ l) ≡ 0
       go true f t k = f tt ∙ k t
       go false f t k = none-starts (x ∷ l) t
 
@@ -98,11 +106,13 @@ module _ (placed : List ℕ) where
   starts-around (x ∷ l) = starts-snoc (x ∷ l) x
 
   -- a list with no begin, or cut at one
-  find : {C : Type 0} (l : List ℕ) → (starts placed l ≡ 0 → C) → ((X : List ℕ) (a b : ℕ) (Y : List ℕ) → l ≡ X ++ a ∷ b ∷ Y → ¬ (T (mem placed a)) → T (mem placed b) → C) → C
+  find : {C : Type 0} (l : List ℕ) → (starts placed l ≡ 0 → C)
+      → ((X : List ℕ) (a b : ℕ) (Y : List ℕ) → l ≡ X ++ a ∷ b ∷ Y → ¬ (T (mem placed a)) → T (mem placed b) → C) → C
   unfolding starts
   find [] f g = f refl
   find (x ∷ []) f g = f refl
-  find (x ∷ y ∷ l) f g = go (mem placed x) (mem placed y) (λ e. f e) (g [] x y l refl) (λ h. find (y ∷ l) h (λ X a b Y e. g (x ∷ X) a b Y (ap (λ (r : List ℕ). x ∷ r) e)))
+  find (x ∷ y ∷ l) f g =
+      go (mem placed x) (mem placed y) (λ e. f e) (g [] x y l refl) (λ h. find (y ∷ l) h (λ X a b Y e. g (x ∷ X) a b Y (ap (λ (r : List ℕ). x ∷ r) e)))
     where
       go : {C : Type 0} (b c : Bool) → (cond (not b && c) 1 0 + starts placed (y ∷ l) ≡ 0 → C) → (¬ (T b) → T c → C) → ((starts placed (y ∷ l) ≡ 0 → C) → C) → C
       go true c f g k = k (λ e. f (omega arith))
@@ -118,7 +128,8 @@ module _ (placed : List ℕ) where
       go false true n t = omega arith
       go false false n t = absurd t
 
-  starts-close : (y : ℕ) (W : List ℕ) (x : ℕ) → ¬ (T (mem placed x)) → T (mem placed y) → starts placed (around (y ∷ (W ++ x ∷ []))) ≡ starts placed (y ∷ (W ++ x ∷ [])) + 1
+  starts-close : (y : ℕ) (W : List ℕ) (x : ℕ) → ¬ (T (mem placed x)) → T (mem placed y)
+      → starts placed (around (y ∷ (W ++ x ∷ []))) ≡ starts placed (y ∷ (W ++ x ∷ [])) + 1
   starts-close y W x nx py = omega (arith, ap (starts placed) (around-cut y W (x ∷ [])), starts-cut (y ∷ W) x (y ∷ []), one-begin x y nx py)
 
 -- ---- the same by places: entry i is not placed, and the next one around is
@@ -126,24 +137,6 @@ unfoldable pub startsAt : List ℕ → List ℕ → ℕ → Bool
 startsAt placed l i = not (mem placed (getD l i 0)) && mem placed (getD l (after (length l) i) 0)
 
 module _ (placed l : List ℕ) where
-  around-length : 0 < length l → length (around l) ≡ suc (length l)
-  unfolding around
-  around-length = go l
-    where
-      go : (l : List ℕ) → 0 < length l → length (l ++ take 1 l) ≡ suc (length l)
-      go [] h = absurd (omega arith)
-      go (x ∷ l) h = omega (arith, length-append (x ∷ l) (x ∷ []))
-
-  starts-one : (i : ℕ) → i < length l → starts placed (drop i (around l)) ≡ cond (startsAt placed l i) 1 0 + starts placed (drop (suc i) (around l))
-  unfolding starts startsAt
-  starts-one i h =
-      let n : length (around l) ≡ suc (length l) = around-length (omega arith) in
-      let e = drop-cons (around l) i 0 (omega arith) in
-      let f = drop-cons (around l) (suc i) 0 (omega arith) in
-      let t = around-at l i h in
-      let g : drop (suc i) (around l) ≡ getD l (after (length l) i) 0 ∷ drop (suc (suc i)) (around l) = f ∙ ap (λ (x : ℕ). x ∷ drop (suc (suc i)) (around l)) (t .1) in
-      rw (e, t .0, g) refl
-
   starts-first : starts placed (take 1 l) ≡ 0
   unfolding starts
   starts-first = go l
@@ -156,15 +149,6 @@ module _ (placed l : List ℕ) where
   unfolding around
   starts-last i h = rw (drop-at l (take 1 l) i h) starts-first
 
-  starts-from : (k i : ℕ) → i + k ≡ length l → starts placed (drop i (around l)) ≡ count (startsAt placed l) (numbers i k)
-  unfolding numbers count
-  starts-from zero i h = starts-last i (omega arith)
-  starts-from (suc k) i h = let e = starts-one i (omega arith) in let r = starts-from k (suc i) (omega arith) in omega arith
-
-  -- how many starts a loop over the places finds
-  pub starts-places : count (startsAt placed l) (numbers 0 (length l)) ≡ starts placed (around l)
-  starts-places = sym (starts-from (length l) 0 (omega arith))
-
 -- one run: at most one placed neighbour follows one that is not placed
 module _ (G : List (List ℕ)) (placed : List ℕ) (v : ℕ) where
   p : ℕ → Bool
@@ -176,7 +160,13 @@ module _ (G : List (List ℕ)) (placed : List ℕ) (v : ℕ) where
       let r = some-found p 0 (length (ring G v)) t in
       let X = take (r .0) (ring G v) in
       let Y = drop (r .0) (ring G v) in
-      omega (arith, starts-rest placed (Y ++ X) (holds _ (r .3)), starts-around placed (Y ++ X), starts-turn placed X Y, ap (λ (l : List ℕ). starts placed (around l)) (take-append-drop (r .0) (ring G v)))
+      omega (
+        arith,
+        starts-rest placed (Y ++ X) (holds _ (r .3)),
+        starts-around placed (Y ++ X),
+        starts-turn placed X Y,
+        ap (λ (l : List ℕ). starts placed (around l)) (take-append-drop (r .0) (ring G v)),
+      )
 
   pub starts-one-run : 0 < length (ring G v) → starts placed (around (ring G v)) ≤ 1 → oneRun G placed v ≡ true
   unfolding oneRun p
@@ -187,5 +177,13 @@ module _ (G : List (List ℕ)) (placed : List ℕ) (v : ℕ) where
       let f : ring G v ≡ (X ++ x ∷ []) ++ y ∷ Y = e ∙ sym (append-assoc X (x ∷ []) (y ∷ Y)) in
       let t : from s (ring G v) ≡ y ∷ ((Y ++ X) ++ x ∷ []) = ap (from s) f ∙ from-at (X ++ x ∷ []) (y ∷ Y) ∙ sym (append-assoc (y ∷ Y) X (x ∷ [])) in
       let z : starts placed (y ∷ ((Y ++ X) ++ x ∷ [])) ≡ 0 =
-      omega (arith, b, starts-close placed y (Y ++ X) x nx py, starts-turn placed (X ++ x ∷ []) (y ∷ Y), ap (λ (l : List ℕ). starts placed (around l)) f, ap (λ (l : List ℕ). starts placed (around l)) (append-assoc (y ∷ Y) X (x ∷ []))) in
-      some-true p 0 (length (ring G v)) s (omega arith) (omega (arith, ap length f, length-append (X ++ x ∷ []) (y ∷ Y))) (is-true _ (rest-starts placed _ (rw t z))))
+      omega (
+        arith,
+        b,
+        starts-close placed y (Y ++ X) x nx py,
+        starts-turn placed (X ++ x ∷ []) (y ∷ Y),
+        ap (λ (l : List ℕ). starts placed (around l)) f,
+        ap (λ (l : List ℕ). starts placed (around l)) (append-assoc (y ∷ Y) X (x ∷ [])),
+      ) in
+      some-true p 0 (length (ring G v)) s (omega arith) (omega (arith, ap length f, length-append (X ++ x ∷ []) (y ∷ Y)))
+      (is-true _ (rest-starts placed _ (rw t z))))

@@ -67,10 +67,6 @@ module _ (placed : List ℕ) where
       says-none (mem placed) (rest placed (A ++ B)) (λ a i t. n a (rest-in B a (subst (In a) (rest-after A B h) i)) (mem-in placed a t))
 
 -- a ring read from place s on has the same entries
-pub from-in : (s : ℕ) (l : List ℕ) (a : ℕ) → In a l → In a (from s l)
-unfolding from
-from-in s l a h = in-turn a (take s l) (drop s l) (rw take-append-drop h)
-
 pub from-out : (s : ℕ) (l : List ℕ) (a : ℕ) → In a (from s l) → In a l
 unfolding from
 from-out s l a h = rw take-append-drop at (in-turn a (drop s l) (take s l) h)
@@ -85,11 +81,13 @@ from-start l = append-nil l
 
 -- where the run begins: the placed entries lead, and where the whole ring is placed, v1 does
 module _ (G : List (List ℕ)) (placed : List ℕ) (v s : ℕ) where
-  pub begins-says : T (begins G placed v s) → T (leads placed (from s (ring G v))) × T (not (allOf (mem placed) (ring G v)) || eqb (getD (ring G v) s 0) (post placed 1))
+  pub begins-says : T (begins G placed v s)
+      → T (leads placed (from s (ring G v))) × T (not (allOf (mem placed) (ring G v)) || eqb (getD (ring G v) s 0) (post placed 1))
   unfolding begins
   begins-says t = both (leads placed (from s (ring G v))) _ t
 
-  pub says-begins : T (leads placed (from s (ring G v))) → T (not (allOf (mem placed) (ring G v)) || eqb (getD (ring G v) s 0) (post placed 1)) → T (begins G placed v s)
+  pub says-begins : T (leads placed (from s (ring G v))) → T (not (allOf (mem placed) (ring G v)) || eqb (getD (ring G v) s 0) (post placed 1))
+      → T (begins G placed v s)
   unfolding begins
   says-begins h i = join (leads placed (from s (ring G v))) _ h i
 
@@ -142,7 +140,8 @@ module _ (G : List (List ℕ)) (vs : List ℕ) (k v : ℕ) where
 
       lead-now : (l : List ℕ) → l ≡ R .theRun ++ R .others → leads placed l ≡ true
       lead-now l e =
-          rw e (is-true _ (says-leads placed (R .theRun) (R .others) (λ a i. earlier-in vs k a h (R .in-run a i)) (λ a i j. R .off-run a i (in-earlier vs k a j))))
+          rw e
+          (is-true _ (says-leads placed (R .theRun) (R .others) (λ a i. earlier-in vs k a h (R .in-run a i)) (λ a i j. R .off-run a i (in-earlier vs k a j))))
 
       p : ℕ → Bool
       p s = leads placed (from s (ring G v))

@@ -7,7 +7,7 @@ use Rattle.block.specs.Layout.{limit}
 use Rattle.rings.specs.Plane.{Plane}
 use Rattle.rings.specs.Held.{held, Cuts}
 use Rattle.order.specs.Fitting.{FitsSoFar}
-use Rattle.order.specs.Held.{RankedBelow}
+use Rattle.order.specs.Ranked.{RankedBelow}
 
 -- all lists' entries, where each list begins, the list of posts, and the positions by name; an accepted block's order is such a list
 pub record Fitted (at ents vs rank : List ℕ) : Type 0 where

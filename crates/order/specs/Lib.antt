@@ -1,6 +1,6 @@
 pub mod Order
 pub mod Canonical
 pub mod Fitting
-pub mod Held
 pub mod Opens
 pub mod Fitted
+pub mod Ranked

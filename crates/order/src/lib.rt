@@ -1,6 +1,6 @@
 // The order of fitting: the position of each name, the rule at each position (steps 12 and 13), and the run of the next post.
 ghost use mathlib.Core.Path.{_≡_};
-ghost use mathlib.Core.Bool.{true, false, not, cond, _&&_};
+ghost use mathlib.Core.Bool.{false, not, cond, _&&_};
 ghost use Prim.Native.Nat.{ℕ, _+_, _-_, _≤_, _<_};
 ghost use lib.Dec.{ltb};
 ghost use lib.ListN.{length, getD, take};
@@ -14,7 +14,7 @@ ghost use Rattle.rings.specs.Held.{held};
 ghost use Rattle.order.specs.Order.{twoPlaced, oneRun, run};
 ghost use Rattle.order.specs.Opens.{before, opens};
 ghost use Rattle.order.specs.Fitted.{Fitted};
-ghost use Rattle.order.specs.Held.{Ranked, RankedEntries, Listed, starts, fitOf};
+ghost use Rattle.order.specs.Ranked.{Ranked, RankedEntries, Listed, starts, fitOf};
 
 // What the order's rule finds in a position: nothing amiss; fewer than two earlier neighbours; they aren't one run.
 pub enum Fit {
@@ -25,7 +25,8 @@ pub enum Fit {
 
 // rank[a] becomes the position of the name a.
 pub fn ranks(vs: &[u16], rank: &mut [u16])
-    requires { ⌜ (length (now vs) ≤ limit) × (length (now vs) ≤ length (now rank)) × ((k : ℕ) → 1 ≤ k → k ≤ length (now vs) → badEntry (length (now vs)) (now vs) k ≡ false) ⌝ }
+    requires { ⌜ (length (now vs) ≤ limit) × (length (now vs) ≤ length (now rank))
+        × ((k : ℕ) → 1 ≤ k → k ≤ length (now vs) → badEntry (length (now vs)) (now vs) k ≡ false) ⌝ }
     ensures { λ r. ⌜ Ranked (now (vs .entry)) (now (rank .exit)) ⌝ }
 {
     let mut k = 1;
@@ -107,7 +108,7 @@ pub fn rule_at(ents: &[u16], at: &[u16], vs: &[u16], rank: &[u16], k: usize) -> 
     Fit::Good
 }
 
-fn begins(last: bool, here: bool) -> bool
+fn is_opening(last: bool, here: bool) -> bool
     ensures { λ r. ⌜ r ≡ (not last && here) ⌝ }
 {
     if last {
@@ -125,7 +126,7 @@ fn run_begins(ents: &[u16], b: usize, e: usize, rank: &[u16], k: usize, v1: u16)
     let mut i = b;
     while i < e {
         let here = is_before(rank, ents[i], k);
-        if begins(last, here) {
+        if is_opening(last, here) {
             return ents[i];
         }
         last = here;

@@ -8,9 +8,9 @@ use native.Mathlib.Omega.{arith}
 use native.Mathlib.Numerals.{add-one}
 use lib.ListN.{length, getD, take, length-append}
 use lib.Seq.{take-suc, take-at, getD-take, length-take-le}
-use Rattle.words.specs.Lists.{In}
+use Rattle.words.specs.Lists.{In, Adj}
 use Rattle.words.specs.Positions.{post, earlier}
-use Rattle.words.proofs.Lists.{Adj, Once, once-split, last-append}
+use Rattle.words.proofs.Lists.{Once, once-split, last-append}
 use Rattle.words.proofs.Tests.{eqb-same, eqb-other}
 use Rattle.words.proofs.Positions.{post-new, earlier-next}
 use Rattle.rings.specs.Rings.{ring}

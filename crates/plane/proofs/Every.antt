@@ -10,14 +10,14 @@ use Rattle.words.specs.Lists.{In}
 use Rattle.words.specs.Positions.{post}
 use Rattle.words.proofs.Lists.{Once}
 use Rattle.rings.specs.Rings.{ring}
-use Rattle.rings.specs.Plane.{Plane, Wire as RingWire}
+use Rattle.rings.specs.Plane.{Plane, Wire}
 use Rattle.order.specs.Fitting.{FitsSoFar}
 use Rattle.order.proofs.Fitting.{fits-faces, fits-once}
 use Rattle.placing.specs.Stages.{Stage, place, stage}
 use Rattle.placing.proofs.Steps.{Step, stage-next, stage-placed, step-at, at-each-stage}
 use Rattle.drawing.specs.Meeting.{NoneMeet, OnGrid}
-use Rattle.drawing.proofs.Lists.{Chain}
-use Rattle.drawing.proofs.Build.{Wire, Good}
+use Rattle.words.proofs.Chains.{Chain}
+use Rattle.drawing.proofs.Build.{Built, Good}
 use Rattle.plane.proofs.Drawn.{places, Drawn}
 use Rattle.plane.proofs.Next.{OneStep}
 use Rattle.plane.proofs.Sheet.{turns, no-short, low, within, grid, rising, even, contour-placed, in-some, in-one, group-placed}
@@ -62,7 +62,7 @@ module _ (G : List (List ℕ)) (vn : ℕ) (vs : List ℕ) (P : Plane G (post vs 
     pub drawn-at : Drawn t (tied-at k h i .B)
     drawn-at = tied-at k h i .drawn
 
-    pub wires-at : (u w : ℕ) → In u (take k vs) → In w (take k vs) → In w (ring G u) → Wire (tied-at k h i .B) u w ⊎ Wire (tied-at k h i .B) w u
+    pub wires-at : (u w : ℕ) → In u (take k vs) → In w (take k vs) → In w (ring G u) → Built (tied-at k h i .B) u w ⊎ Built (tied-at k h i .B) w u
     wires-at u w a b = tied-at k h i .wires u w (rw placed-at a) (rw placed-at b)
 
     -- no triangle has turned over
@@ -85,7 +85,7 @@ module _ (G : List (List ℕ)) (vn : ℕ) (vs : List ℕ) (P : Plane G (post vs 
         }
 
     -- no two different wires meet except at a post they share
-    pub no-short-at : NoneMeet (places t) (RingWire G (take k vs))
+    pub no-short-at : NoneMeet (places t) (Wire G (take k vs))
     no-short-at a b c e f g = no-short drawn-at a b c e (wires-at a b (f .0) (f .1) (f .2)) (wires-at c e (g .0) (g .1) (g .2))
 
     -- the contour's columns rise from left to right, from v1 in column 0 to v2 in column 2k - 4; and x + y is even on it

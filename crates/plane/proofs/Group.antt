@@ -8,7 +8,8 @@ use native.Mathlib.Omega.{arith}
 use Rattle.words.specs.Lists.{In}
 use Rattle.drawing.specs.Meeting.{Places}
 use Rattle.drawing.proofs.Numbers.{by-le}
-use Rattle.drawing.proofs.Lists.{Chain, chain-at, chain-to, chain-join, chain-in, chain-from, chain-last, in-append, in-left, in-right}
+use Rattle.words.proofs.Lists.{in-cases, in-left, in-right}
+use Rattle.words.proofs.Chains.{Chain, chain-at, chain-to, chain-join, chain-in, chain-from, chain-last}
 use Rattle.plane.proofs.Shift.{Moves}
 
 -- the groups up to p's stay, those from q's on move by j, and those between move by i and become v's
@@ -76,7 +77,7 @@ module _ (g : ℕ → ℕ) (L : List ℕ) (p : ℕ) (M : List ℕ) (q : ℕ) (R 
 
   pub upto-p : (a : ℕ) → In a (L ++ p ∷ []) → (g a ≤ g p) × In a (L ++ p ∷ (M ++ q ∷ R))
   upto-p a =
-      in-append a L (p ∷ []) (λ i. (omega (arith, grow a p (chain-last E trans L p before-p a i)), in-left a L _ i))
+      in-cases a L (p ∷ []) (λ i. (omega (arith, grow a p (chain-last E trans L p before-p a i)), in-left a L _ i))
       (elim [ inl e ↦ (omega (arith, ap g e), in-right a L _ (inl e)) | inr i ↦ absurd i ])
 
   pub onto-q : (a : ℕ) → In a (q ∷ R) → (g q ≤ g a) × In a (L ++ p ∷ (M ++ q ∷ R))

@@ -1,39 +1,22 @@
--- The lists that the method reads: members by a test, the groups of a stretch, a contour up to a post and from a post on, and a run's parts.
+-- The lists that the method reads: the groups of a stretch, a contour up to a post and from a post on, and a run's parts.
 use Prim.Native.Nat.{ℕ, _-_}
 use mathlib.Core.Path.{_≡_, refl, sym}
 use mathlib.Core.Logic.{_⊎_, inl, inr}
-use mathlib.Core.Bool.{Bool, true, false, _||_}
 use mathlib.Core.List.{List, [], _∷_, _++_, flatMap}
 use native.Mathlib.Omega.{arith}
-use lib.Dec.{eqb}
 use lib.ListN.{length, length-append}
 use lib.Seq.{take-at}
 use borrow.Author.Tests.{eq-eqb, ne-eqb}
-use Rattle.words.specs.Lists.{In, mem, lastOf}
+use Rattle.words.specs.Lists.{In, lastOf}
 use Rattle.placing.specs.Stages.{upTo, onFrom, inner}
-use Rattle.drawing.proofs.Lists.{in-append, in-left, in-right}
-
--- ---- the test for a member, and the fact
-pub in-mem : (l : List ℕ) (a : ℕ) → In a l → mem l a ≡ true
-unfolding mem
-in-mem (x ∷ l) a (inl e) = rw (eq-eqb a x e)
-in-mem (x ∷ l) a (inr h) = or (eqb a x) (mem l a) (in-mem l a h)
-  where
-    or : (b c : Bool) → c ≡ true → b || c ≡ true
-    or true c e = refl
-    or false c e = e
-
-pub not-mem : (l : List ℕ) (a : ℕ) → ¬ (In a l) → mem l a ≡ false
-unfolding mem
-not-mem [] a n = refl
-not-mem (x ∷ l) a n = rw (ne-eqb a x (λ e. n (inl e))) (not-mem l a (λ h. n (inr h)))
+use Rattle.words.proofs.Lists.{in-cases, in-left, in-right}
 
 -- ---- the posts of the groups of a stretch
 module _ (f : ℕ → List ℕ) (u : ℕ) where
   pub in-groups : (l : List ℕ) → In u (flatMap f l) → (c : ℕ) × In c l × In u (f c)
   unfolding flatMap
   in-groups (c ∷ l) h =
-      in-append u (f c) (flatMap f l) (λ i. (c, inl refl, i)) (λ i. let r = in-groups l i in (r .0, inr (r .1), r .2)) h
+      in-cases u (f c) (flatMap f l) (λ i. (c, inl refl, i)) (λ i. let r = in-groups l i in (r .0, inr (r .1), r .2)) h
 
   pub groups-in : (c : ℕ) (l : List ℕ) → In c l → In u (f c) → In u (flatMap f l)
   unfolding flatMap
@@ -63,5 +46,5 @@ inner-run p M q = take-at M (q ∷ []) (length (p ∷ (M ++ q ∷ [])) - 2) (ome
 pub sides : (c : ℕ) (X : List ℕ) (p : ℕ) (M : List ℕ) (q : ℕ) (Y : List ℕ) → In c (X ++ p ∷ (M ++ q ∷ Y))
     → In c (X ++ p ∷ []) ⊎ (In c M ⊎ In c (q ∷ Y))
 sides c X p M q Y =
-    in-append c X (p ∷ (M ++ q ∷ Y)) (λ i. inl (in-left c X (p ∷ []) i))
-    (elim [ inl e ↦ inl (in-right c X (p ∷ []) (inl e)) | inr h ↦ in-append c M (q ∷ Y) (λ i. inr (inl i)) (λ i. inr (inr i)) h ])
+    in-cases c X (p ∷ (M ++ q ∷ Y)) (λ i. inl (in-left c X (p ∷ []) i))
+    (elim [ inl e ↦ inl (in-right c X (p ∷ []) (inl e)) | inr h ↦ in-cases c M (q ∷ Y) (λ i. inr (inl i)) (λ i. inr (inr i)) h ])

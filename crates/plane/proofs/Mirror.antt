@@ -5,9 +5,9 @@ use mathlib.Core.Logic.{inl, inr, _≢_}
 use mathlib.Core.List.{List, [], _∷_, _++_}
 use native.Mathlib.Omega.{arith}
 use lib.ListN.{length, take, List·getD-append}
-use Rattle.words.specs.Lists.{In}
+use Rattle.words.specs.Lists.{In, Adj}
 use Rattle.words.specs.Positions.{post}
-use Rattle.words.proofs.Lists.{Adj, Once, adj-cases, adj-init, adj-tail, head-one, once-split, once-drop, in-right}
+use Rattle.words.proofs.Lists.{Once, adj-cases, adj-init, adj-tail, head-one, once-split, once-drop, in-right, in-cases}
 use Rattle.words.proofs.Positions.{in-take, post-suc}
 use Rattle.rings.specs.Plane.{Plane, Follows, OuterTriangle}
 use Rattle.rings.proofs.Around.{After, follows-after}
@@ -18,7 +18,6 @@ use Rattle.order.specs.Fitting.{FitsSoFar}
 use Rattle.order.proofs.Fitting.{fits-faces, fits-outer, fits-once}
 use Rattle.placing.specs.Stages.{Stage, third, place, stage}
 use Rattle.placing.proofs.Steps.{Step, place-placed, at-each-stage}
-use Rattle.drawing.proofs.Lists.{in-append}
 use Rattle.drawing.specs.Areas.{PositiveArea}
 use Rattle.drawing.proofs.Build.{Build}
 use Rattle.plane.proofs.Drawn.{places}
@@ -60,7 +59,7 @@ record Faced (G : List (List ℕ)) (v1 v2 vn : ℕ) (t : Stage) : Type 0 where
   faces : (u a b : ℕ) → After G u a b → In u (t .placed) → In a (t .placed) → In b (t .placed) → Accounted (tied .B) v1 v2 vn u a b
 
 last-to-first : (u : ℕ) (l : List ℕ) (v : ℕ) → In u (l ++ v ∷ []) → In u (v ∷ l)
-last-to-first u l v = in-append u l (v ∷ []) (λ i. inr i) (elim [ inl e ↦ inl e | inr z ↦ absurd z ])
+last-to-first u l v = in-cases u l (v ∷ []) (λ i. inr i) (elim [ inl e ↦ inl e | inr z ↦ absurd z ])
 
 module _ (G : List (List ℕ)) (F : Faces G) (v1 v2 vn : ℕ) (o : After G v2 v1 vn) where
   R : Rings (After G)

@@ -10,7 +10,7 @@ use lib.ListN.{length, length-append}
 use borrow.Author.Tests.{eq-eqb, ne-eqb, le-leb, lt-leb}
 use Rattle.words.specs.Lists.{In}
 use Rattle.placing.specs.Stages.{Stage, placeOver}
-use Rattle.drawing.proofs.Lists.{in-append, in-left, in-right}
+use Rattle.words.proofs.Lists.{in-cases, in-left, in-right}
 use Rattle.drawing.proofs.Build.{Build, post, Post, on-contour}
 use Rattle.plane.proofs.Lists.{sides}
 use Rattle.plane.proofs.Group.{Regroup, Moved, lo, mi, hi, moved}
@@ -265,7 +265,7 @@ module _ (t : Stage) (X : List ℕ) (p : ℕ) (M : List ℕ) (q : ℕ) (Y : List
       record {
         contour = contour';
         posts = posts;
-        placed = λ u h. in-append u (t .placed) (v ∷ []) (λ k. inr (D .placed u k)) (elim [ inl e ↦ inl e | inr z ↦ absurd z ]) (rw placed' at h);
+        placed = λ u h. in-cases u (t .placed) (v ∷ []) (λ k. inr (D .placed u k)) (elim [ inl e ↦ inl e | inr z ↦ absurd z ]) (rw placed' at h);
         width = D .width + 2;
         wide = omega (arith, D .wide, ap length placed', length-append (t .placed) (v ∷ []));
         g = g';

@@ -9,9 +9,11 @@ use lib.Dec.{eqb}
 use Rattle.words.specs.Lists.{In, mem, lastOf}
 use Rattle.words.specs.Positions.{post}
 use Rattle.placing.specs.Stages.{Stage, upTo, onFrom, inner, placeOver}
-use Rattle.drawing.proofs.Lists.{in-append, in-left, in-right, chain-to, chain-last}
+use Rattle.words.proofs.Lists.{in-cases, in-left, in-right}
+use Rattle.words.proofs.Chains.{chain-to, chain-last}
 use Rattle.drawing.proofs.Build.{Build, Post}
-use Rattle.plane.proofs.Lists.{in-mem, not-mem, in-groups, groups-in, upTo-first, onFrom-first, last-run, inner-run, sides}
+use Rattle.words.proofs.Tests.{mem-true, mem-false}
+use Rattle.plane.proofs.Lists.{in-groups, groups-in, upTo-first, onFrom-first, last-run, inner-run, sides}
 use Rattle.plane.proofs.Group.{to-q, from-p, upto-p, onto-q}
 use Rattle.plane.proofs.Step.{Later, later-trans}
 use Rattle.plane.proofs.Drawn.{places, Drawn}
@@ -107,15 +109,15 @@ module _ (t : Stage) (X : List ℕ) (p : ℕ) (M : List ℕ) (q : ℕ) (Y : List
   pub by-0 : (u : ℕ) → g u ≤ g p → by u ≡ 0
   by-0 u h =
       rw (
-        not-mem (flatMap (t .group) M) u (λ i. omega (arith, in-ones u i)),
-        not-mem (flatMap (t .group) (q ∷ Y)) u (λ i. omega (arith, in-twos u i, ends .ord)),
+        mem-false (flatMap (t .group) M) u (λ i. omega (arith, in-ones u i)),
+        mem-false (flatMap (t .group) (q ∷ Y)) u (λ i. omega (arith, in-twos u i, ends .ord)),
       )
 
   pub by-1 : (u : ℕ) → Post B u → g p < g u → g u < g q → by u ≡ 1
-  by-1 u h a b = rw (in-mem (flatMap (t .group) M) u (ones u h a b), not-mem (flatMap (t .group) (q ∷ Y)) u (λ i. omega (arith, in-twos u i)))
+  by-1 u h a b = rw (mem-true (flatMap (t .group) M) u (ones u h a b), mem-false (flatMap (t .group) (q ∷ Y)) u (λ i. omega (arith, in-twos u i)))
 
   pub by-2 : (u : ℕ) → Post B u → g q ≤ g u → by u ≡ 2
-  by-2 u h a = rw (not-mem (flatMap (t .group) M) u (λ i. omega (arith, in-ones u i)), in-mem (flatMap (t .group) (q ∷ Y)) u (twos u h a))
+  by-2 u h a = rw (mem-false (flatMap (t .group) M) u (λ i. omega (arith, in-ones u i)), mem-true (flatMap (t .group) (q ∷ Y)) u (twos u h a))
 
   -- the stage after v, from the run's parts
   pub placed-over : (v : ℕ) → placeOver t (p ∷ (M ++ q ∷ [])) v ≡ over t p q M (X ++ p ∷ []) (q ∷ Y) v
@@ -134,4 +136,4 @@ module _ (t : Stage) (X : List ℕ) (p : ℕ) (M : List ℕ) (q : ℕ) (Y : List
       down : onFrom q (X ++ p ∷ (M ++ q ∷ Y)) ≡ q ∷ Y
       down =
           rw (← (append-assoc X (p ∷ M) (q ∷ Y)))
-          (onFrom-first q (X ++ p ∷ M) Y (in-append q X (p ∷ M) (λ i. omega (arith, before q (in-left q X (p ∷ []) i) .0, ends .ord)) not-q))
+          (onFrom-first q (X ++ p ∷ M) Y (in-cases q X (p ∷ M) (λ i. omega (arith, before q (in-left q X (p ∷ []) i) .0, ends .ord)) not-q))

@@ -8,8 +8,8 @@ use lib.ListN.{length}
 use Rattle.words.specs.Lists.{In}
 use Rattle.placing.specs.Stages.{Stage}
 use Rattle.drawing.specs.Meeting.{Places, NoneMeet, OnGrid}
-use Rattle.drawing.proofs.Lists.{Chain, chain-map, chain-from}
-use Rattle.drawing.proofs.Build.{Build, Wire, Good, on-contour}
+use Rattle.words.proofs.Chains.{Chain, chain-map, chain-from}
+use Rattle.drawing.proofs.Build.{Build, Built, Good, on-contour}
 use Rattle.drawing.proofs.Static.{none-meet, different}
 use Rattle.plane.proofs.Tri.{Tri}
 use Rattle.plane.proofs.Shift.{good}
@@ -29,7 +29,7 @@ module _ {t : Stage} {C : List ℕ} {B : Build C} (D : Drawn t B) where
   turns = good (places t) (D .g) B (D .laid .kept)
 
   -- no two different wires meet except at a post they share
-  pub no-short : NoneMeet (places t) (λ a b. Wire B a b ⊎ Wire B b a)
+  pub no-short : NoneMeet (places t) (λ a b. Built B a b ⊎ Built B b a)
   no-short = none-meet (places t) B turns
 
   -- the height is at most the column, and both together at most 2k - 4
@@ -77,8 +77,8 @@ module _ {t : Stage} {C : List ℕ} {B : Build C} (D : Drawn t B) where
 pub record Recast (t : Stage) {C : List ℕ} (B : Build C) (C' : List ℕ) : Type 0 where
   pub B' : Build C'
   pub drawn : Drawn t B'
-  pub wire : (u w : ℕ) → Wire B u w → Wire B' u w
-  pub wire-back : (u w : ℕ) → Wire B' u w → Wire B u w
+  pub wire : (u w : ℕ) → Built B u w → Built B' u w
+  pub wire-back : (u w : ℕ) → Built B' u w → Built B u w
   pub tri : (a b v : ℕ) → Tri B a b v → Tri B' a b v
 
 pub recast : {t : Stage} {C : List ℕ} (B : Build C) (C' : List ℕ) → Drawn t B → t .contour ≡ C' → Recast t B C'

@@ -8,7 +8,8 @@ use Rattle.words.specs.Lists.{In}
 use Rattle.drawing.specs.Meeting.{Places}
 use Rattle.drawing.proofs.Numbers.{by-le}
 use Rattle.drawing.specs.Areas.{PositiveArea}
-use Rattle.drawing.proofs.Lists.{Chain, chain-map, chain-in, in-right, in-run}
+use Rattle.words.proofs.Lists.{in-right, in-run}
+use Rattle.words.proofs.Chains.{Chain, chain-map, chain-in}
 use Rattle.drawing.proofs.Build.{Build, base, post, Post, Before, Good, on-contour}
 use Rattle.plane.proofs.Turns.{moved-turn, scaled}
 

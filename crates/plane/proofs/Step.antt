@@ -7,7 +7,8 @@ use native.Mathlib.Nat.{mul-pos}
 use native.Mathlib.Omega.{arith}
 use Rattle.words.specs.Lists.{In}
 use Rattle.drawing.specs.Meeting.{Places}
-use Rattle.drawing.proofs.Lists.{Chain, chain-run, in-append, in-left, in-right, in-run}
+use Rattle.words.proofs.Lists.{in-cases, in-left, in-right, in-run}
+use Rattle.words.proofs.Chains.{Chain, chain-run}
 use Rattle.drawing.proofs.Build.{Build, post, Post, on-contour}
 use Rattle.plane.proofs.Turns.{peak}
 use Rattle.plane.proofs.Shift.{Held, Holds, Kept, kept}
@@ -112,7 +113,7 @@ module _ (s s' : Places) (g g' : ℕ → ℕ) (width : ℕ) (L : List ℕ) (p : 
   low-a a (inr i) = later-p' a (in-left a M (q ∷ []) i) .dif
 
   low-b : (b : ℕ) → In b (M ++ q ∷ []) → x b + y b ≤ x q + y q
-  low-b b = in-append b M (q ∷ []) (λ i. later-q' b (inr i) .sum) (elim [ inl e ↦ omega (arith, ap x e, ap y e) | inr i ↦ absurd i ])
+  low-b b = in-cases b M (q ∷ []) (λ i. later-q' b (inr i) .sum) (elim [ inl e ↦ omega (arith, ap x e, ap y e) | inr i ↦ absurd i ])
 
   seen : (a b : ℕ) → In a (p ∷ M) → In b (M ++ q ∷ []) → Later s g a b → Seen a b
   seen a b i j l = go (moves-of a ia) (moves-of b ib)
@@ -188,7 +189,7 @@ module _ (s s' : Places) (g g' : ℕ → ℕ) (width : ℕ) (L : List ℕ) (p : 
       go (hi a b e) = omega (arith, shift .level u h, G .bounds u h)
 
   even' : (u : ℕ) → In u (L ++ p ∷ v ∷ q ∷ R) → (x' u + y' u) % 2 ≡ 0
-  even' u = in-append u L (p ∷ v ∷ q ∷ R) (λ i. low u (in-left u L (p ∷ []) i)) go
+  even' u = in-cases u L (p ∷ v ∷ q ∷ R) (λ i. low u (in-left u L (p ∷ []) i)) go
     where
       low : (a : ℕ) → In a (L ++ p ∷ []) → (x' a + y' a) % 2 ≡ 0
       low a i =

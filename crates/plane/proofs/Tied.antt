@@ -5,16 +5,15 @@ use mathlib.Core.Logic.{_⊎_, inl, inr, _≢_}
 use mathlib.Core.List.{List, [], _∷_, _++_}
 use native.Mathlib.Omega.{arith}
 use lib.ListN.{length, length-append, List·getD-append}
-use Rattle.words.specs.Lists.{In, lastOf}
+use Rattle.words.specs.Lists.{In, lastOf, Head, Adj}
 use Rattle.words.specs.Positions.{post}
-use Rattle.words.proofs.Lists.{Head, Adj, head-same, in-head, last-append, last-in}
+use Rattle.words.proofs.Lists.{head-same, in-head, last-append, last-in, in-cases}
 use Rattle.rings.specs.Rings.{ring}
 use Rattle.rings.proofs.Says.{Faces, entry-other, entry-returned}
 use Rattle.placing.specs.Stages.{Stage, third, placeOver, place}
 use Rattle.placing.proofs.Steps.{Step, place-placed}
 use Rattle.placing.proofs.Placed.{shift, place-x-old}
-use Rattle.drawing.proofs.Lists.{in-append}
-use Rattle.drawing.proofs.Build.{Build, Post, Wire, on-contour}
+use Rattle.drawing.proofs.Build.{Build, Post, Built, on-contour}
 use Rattle.drawing.proofs.Build.Build.{post as over}
 use Rattle.plane.proofs.Drawn.{Drawn}
 use Rattle.plane.proofs.Over.{before, after, inside, by-0, by-1, by-2}
@@ -28,7 +27,7 @@ pub record Tied (G : List (List ℕ)) (t : Stage) : Type 0 where
   pub C : List ℕ
   pub B : Build C
   pub drawn : Drawn t B
-  pub wires : (u w : ℕ) → In u (t .placed) → In w (t .placed) → In w (ring G u) → Wire B u w ⊎ Wire B w u
+  pub wires : (u w : ℕ) → In u (t .placed) → In w (t .placed) → In w (ring G u) → Built B u w ⊎ Built B w u
   -- v1 stands in column 0, and v2 in column 2k - 4
   pub two : 2 ≤ length (t .placed)
   pub left : t .x (post (t .placed) 1) ≡ 0
@@ -36,7 +35,7 @@ pub record Tied (G : List (List ℕ)) (t : Stage) : Type 0 where
 
 -- ---- stage 3
 module _ (G : List (List ℕ)) (F : Faces G) (v1 v2 v3 : ℕ) (d12 : v1 ≢ v2) (d13 : v1 ≢ v3) (d23 : v2 ≢ v3) where
-  third-wires : (u w : ℕ) → In u (v1 ∷ v2 ∷ v3 ∷ []) → In w (v1 ∷ v2 ∷ v3 ∷ []) → In w (ring G u) → Wire (three v1 v2 v3) u w ⊎ Wire (three v1 v2 v3) w u
+  third-wires : (u w : ℕ) → In u (v1 ∷ v2 ∷ v3 ∷ []) → In w (v1 ∷ v2 ∷ v3 ∷ []) → In w (ring G u) → Built (three v1 v2 v3) u w ⊎ Built (three v1 v2 v3) w u
   third-wires u w (inl e) (inl f) h = absurd (entry-other G F u w h (f ∙ sym e))
   third-wires u w (inl e) (inr (inl f)) h = inl (inr (e, f))
   third-wires u w (inl e) (inr (inr (inl f))) h = inr (inl (f, inl e))
@@ -75,23 +74,23 @@ module _ (G : List (List ℕ)) (t : Stage) (v : ℕ) (S : Step G t v) where
 
   -- a new wire is one between v and its run
   step-wires : (F : Faces G) (B : Build contour-is)
-      → ((u w : ℕ) → In u (t .placed) → In w (t .placed) → In w (ring G u) → Wire B u w ⊎ Wire B w u)
+      → ((u w : ℕ) → In u (t .placed) → In w (t .placed) → In w (ring G u) → Built B u w ⊎ Built B w u)
       → (u w : ℕ) → In u (t .placed ++ v ∷ []) → In w (t .placed ++ v ∷ []) → In w (ring G u)
-      → Wire (over (S .X) (S .p) (S .M) (S .q) (S .Y) v B) u w ⊎ Wire (over (S .X) (S .p) (S .M) (S .q) (S .Y) v B) w u
-  step-wires F B f u w i j h = in-append u (t .placed) (v ∷ []) old new i
+      → Built (over (S .X) (S .p) (S .M) (S .q) (S .Y) v B) u w ⊎ Built (over (S .X) (S .p) (S .M) (S .q) (S .Y) v B) w u
+  step-wires F B f u w i j h = in-cases u (t .placed) (v ∷ []) old new i
     where
       back : In u (ring G w)
       back = entry-returned G F u w h
 
-      old : In u (t .placed) → Wire (over (S .X) (S .p) (S .M) (S .q) (S .Y) v B) u w ⊎ Wire (over (S .X) (S .p) (S .M) (S .q) (S .Y) v B) w u
+      old : In u (t .placed) → Built (over (S .X) (S .p) (S .M) (S .q) (S .Y) v B) u w ⊎ Built (over (S .X) (S .p) (S .M) (S .q) (S .Y) v B) w u
       old k =
-          in-append w (t .placed) (v ∷ []) (λ l. elim (f u w k l h) [ inl a ↦ inl (inr a) | inr a ↦ inr (inr a) ])
+          in-cases w (t .placed) (v ∷ []) (λ l. elim (f u w k l h) [ inl a ↦ inl (inr a) | inr a ↦ inr (inr a) ])
           (elim [ inl e ↦ inr (inl (e, S .run-all u (subst (λ (n : ℕ). In u (ring G n)) e back) k)) | inr z ↦ absurd z ]) j
 
-      new : In u (v ∷ []) → Wire (over (S .X) (S .p) (S .M) (S .q) (S .Y) v B) u w ⊎ Wire (over (S .X) (S .p) (S .M) (S .q) (S .Y) v B) w u
+      new : In u (v ∷ []) → Built (over (S .X) (S .p) (S .M) (S .q) (S .Y) v B) u w ⊎ Built (over (S .X) (S .p) (S .M) (S .q) (S .Y) v B) w u
       new (inr z) = absurd z
       new (inl e) =
-          in-append w (t .placed) (v ∷ []) (λ l. inl (inl (e, S .run-all w (subst (λ (n : ℕ). In w (ring G n)) e h) l)))
+          in-cases w (t .placed) (v ∷ []) (λ l. inl (inl (e, S .run-all w (subst (λ (n : ℕ). In w (ring G n)) e h) l)))
           (elim [ inl d ↦ absurd (entry-other G F u w h (d ∙ sym e)) | inr z ↦ absurd z ]) j
 
   -- the drawing of the next stage

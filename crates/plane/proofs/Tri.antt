@@ -3,9 +3,9 @@ use Prim.Native.Nat.{ℕ}
 use mathlib.Core.Path.{_≡_}
 use mathlib.Core.Logic.{_⊎_, inl, inr}
 use mathlib.Core.List.{List, [], _∷_, _++_}
-use Rattle.words.proofs.Lists.{Adj}
+use Rattle.words.specs.Lists.{Adj}
 use Rattle.drawing.specs.Meeting.{Places}
-use Rattle.drawing.proofs.Lists.{Chain}
+use Rattle.words.proofs.Chains.{Chain}
 use Rattle.drawing.specs.Areas.{PositiveArea}
 use Rattle.drawing.proofs.Build.{Build, base, post, Good}
 

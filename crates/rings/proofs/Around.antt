@@ -5,8 +5,8 @@ use mathlib.Core.Bool.{Bool, _&&_}
 use mathlib.Core.List.{List, [], _∷_, _++_, append-assoc, append-nil}
 use Prim.Native.Nat.{ℕ}
 use lib.Dec.{T, eqb, eqb→eq, eqb-refl}
-use Rattle.words.specs.Lists.{In}
-use Rattle.words.proofs.Lists.{Adj, Once, in-cases, adj-init, adj-tail, adj-one, adj-next, adj-turn, adj-right}
+use Rattle.words.specs.Lists.{In, Adj}
+use Rattle.words.proofs.Lists.{Once, in-cases, adj-init, adj-tail, adj-one, adj-next, adj-turn, adj-right}
 use Rattle.words.proofs.Tests.{both, join, either, or-left, or-right}
 use Rattle.rings.specs.Rings.{ring, around, next, allNext}
 use Rattle.rings.specs.Plane.{Follows}
@@ -39,7 +39,8 @@ unfolding next
 next-says a b [] t = t
 next-says a b (x ∷ []) t = absurd t
 next-says a b (x ∷ y ∷ l) t =
-    either (eqb x a && eqb y b) (next a b (y ∷ l)) (λ e. let s = both (eqb x a) (eqb y b) e in inl (eqb→eq x a (s .0), eqb→eq y b (s .1))) (λ m. inr (next-says a b (y ∷ l) m)) t
+    either (eqb x a && eqb y b) (next a b (y ∷ l)) (λ e. let s = both (eqb x a) (eqb y b) e in inl (eqb→eq x a (s .0), eqb→eq y b (s .1)))
+    (λ m. inr (next-says a b (y ∷ l) m)) t
 
 pub says-next : (a b : ℕ) (l : List ℕ) → Adj l a b → T (next a b l)
 unfolding next

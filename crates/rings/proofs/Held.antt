@@ -11,7 +11,7 @@ use borrow.Author.Tests.{lt-ltb, le-ltb, eq-eqb, ne-eqb, not-true, not-false}
 use Rattle.words.specs.Lists.{mem, count, allOf}
 use Rattle.rings.specs.Rings.{ring, around, next, allNext, follows, entryRule, ringRule, triangleRule, outerRule}
 use Rattle.rings.proofs.Turns.{all-step, all-end, around-start, all-next-turn, all-next-done}
-use Rattle.rings.specs.Held.{held}
+use Rattle.rings.specs.Held.{held, Cuts}
 
 pub held-length : (at ents : List ℕ) → length (held at ents) ≡ length at - 1
 unfolding held
@@ -37,6 +37,10 @@ module _ (at ents : List ℕ) where
   pub held-part : (u a b : ℕ) → u + 1 < length at → a ≡ getD at u 0 → b ≡ getD at (u + 1) 0 → ring (held at ents) u ≡ slice a b ents
   held-part u a b h p q = rw (p, q) (held-ring at ents u h)
 
+  -- its ends stand in order, and within the entries
+  pub part-within : Cuts at ents → (u a b : ℕ) → u + 1 < length at → a ≡ getD at u 0 → b ≡ getD at (u + 1) 0 → (a ≤ b) × (b ≤ length ents)
+  part-within C u a b h p q = (omega (arith, C .rise u h), omega (arith, C .within (u + 1) h))
+
   module _ (u v : ℕ) where
     pub breaks-high : length at - 1 ≤ v → true ≡ not (entryRule (held at ents) u v)
     unfolding entryRule
@@ -50,7 +54,8 @@ module _ (at ents : List ℕ) where
       unfolding entryRule
       breaks-self e = rw (lt-ltb v (length (held at ents)) lowest, eq-eqb v u e) refl
 
-      module _ (other : v ≡ u → ⊥) (is : u + 1 < length at) (c a b : ℕ) (ea : a ≡ getD at u 0) (eb : b ≡ getD at (u + 1) 0) (ec : c ≡ count (eqb v) (slice a b ents)) where
+      module _ (other : v ≡ u → ⊥) (is : u + 1 < length at) (c a b : ℕ) (ea : a ≡ getD at u 0) (eb : b ≡ getD at (u + 1) 0)
+          (ec : c ≡ count (eqb v) (slice a b ents)) where
         counted : c ≡ count (eqb v) (ring (held at ents) u)
         counted = rw (held-part u a b is ea eb) ec
 
@@ -59,7 +64,8 @@ module _ (at ents : List ℕ) where
         breaks-twice n =
             rw (lt-ltb v (length (held at ents)) lowest, ne-eqb v u other, ← counted, ne-eqb c 1 n) refl
 
-        pub breaks-alone : c ≡ 1 → (y z : ℕ) → y ≡ getD at v 0 → z ≡ getD at (v + 1) 0 → (r : Bool) → r ≡ mem (slice y z ents) u → not r ≡ not (entryRule (held at ents) u v)
+        pub breaks-alone : c ≡ 1 → (y z : ℕ) → y ≡ getD at v 0 → z ≡ getD at (v + 1) 0 → (r : Bool) → r ≡ mem (slice y z ents) u
+            → not r ≡ not (entryRule (held at ents) u v)
         unfolding entryRule
         breaks-alone n y z ey ez r er =
             rw (lt-ltb v (length (held at ents)) lowest, ne-eqb v u other, ← counted, eq-eqb c 1 n, held-part v y z (omega arith) ey ez, ← er) refl
@@ -69,7 +75,8 @@ module _ (at ents : List ℕ) where
   unfolding follows around next
   follows-none v a c h = rw (held-none v h) refl
 
-  pub follows-part : (v a c x y : ℕ) → v + 1 < length at → x ≡ getD at v 0 → y ≡ getD at (v + 1) 0 → (r : Bool) → r ≡ next a c (around (slice x y ents)) → r ≡ follows (held at ents) v a c
+  pub follows-part : (v a c x y : ℕ) → v + 1 < length at → x ≡ getD at v 0 → y ≡ getD at (v + 1) 0 → (r : Bool) → r ≡ next a c (around (slice x y ents))
+      → r ≡ follows (held at ents) v a c
   unfolding follows
   follows-part v a c x y h ex ey r e = rw (held-part v x y h ex ey) e
 
@@ -98,14 +105,16 @@ module _ (at ents : List ℕ) where
     unfolding triangleRule
     triangle-start = rw (held-part u b e h eb ee) (around-start ents b e le in-ents (allNext (λ v w. follows (held at ents) v w u)))
 
-  module _ (u e i : ℕ) (k : i < e) (in-ents : e ≤ length ents) (so : allOf (entryRule (held at ents) u) (slice i e ents) ≡ ringRule (held at ents) u) (r : Bool) (er : r ≡ not (entryRule (held at ents) u (getD ents i 0))) where
+  module _ (u e i : ℕ) (k : i < e) (in-ents : e ≤ length ents) (so : allOf (entryRule (held at ents) u) (slice i e ents) ≡ ringRule (held at ents) u)
+      (r : Bool) (er : r ≡ not (entryRule (held at ents) u (getD ents i 0))) where
     pub ring-fault : r ≡ true → not (ringRule (held at ents) u) ≡ true
     ring-fault t = rw (← so, all-step ents i e k in-ents (entryRule (held at ents) u), not-true (entryRule (held at ents) u (getD ents i 0)) (sym er ∙ t)) refl
 
     pub ring-pass : r ≡ false → allOf (entryRule (held at ents) u) (slice (i + 1) e ents) ≡ ringRule (held at ents) u
     ring-pass t = rw (← so, all-step ents i e k in-ents (entryRule (held at ents) u), not-false (entryRule (held at ents) u (getD ents i 0)) (sym er ∙ t)) refl
 
-  pub ring-done : (u e i : ℕ) → i ≡ e → allOf (entryRule (held at ents) u) (slice i e ents) ≡ ringRule (held at ents) u → not (ringRule (held at ents) u) ≡ false
+  pub ring-done : (u e i : ℕ) → i ≡ e → allOf (entryRule (held at ents) u) (slice i e ents) ≡ ringRule (held at ents) u
+      → not (ringRule (held at ents) u) ≡ false
   ring-done u e i q so = rw (← so, q, all-end ents e (entryRule (held at ents) u)) refl
 
   module _ (u b e i : ℕ) (j : b ≤ i) (k : i < e) (in-ents : e ≤ length ents)
@@ -117,5 +126,7 @@ module _ (at ents : List ℕ) where
     pub triangle-pass : r ≡ true → allNext (λ v w. follows (held at ents) v w u) (drop (i + 1 - b) (around (slice b e ents))) ≡ triangleRule (held at ents) u
     triangle-pass t = rw (← so, all-next-turn ents b e i j k in-ents (λ v w. follows (held at ents) v w u), ← er, t) refl
 
-  pub triangle-done : (u b e i : ℕ) → i ≡ e → b ≤ e → e ≤ length ents → allNext (λ v w. follows (held at ents) v w u) (drop (i - b) (around (slice b e ents))) ≡ triangleRule (held at ents) u → not (triangleRule (held at ents) u) ≡ false
+  pub triangle-done : (u b e i : ℕ) → i ≡ e → b ≤ e → e ≤ length ents
+      → allNext (λ v w. follows (held at ents) v w u) (drop (i - b) (around (slice b e ents))) ≡ triangleRule (held at ents) u
+      → not (triangleRule (held at ents) u) ≡ false
   triangle-done u b e i q le in-ents so = rw (← so, q, all-next-done ents b e le in-ents (λ v w. follows (held at ents) v w u)) refl

@@ -9,7 +9,7 @@ use native.Mathlib.Decide.{decLt}
 use lib.Dec.{eqb}
 use lib.ListN.{length, getD, List·getD-append}
 use lib.Seq.{getD-at}
-use Rattle.words.proofs.Lists.{Adj}
+use Rattle.words.specs.Lists.{Adj}
 use Rattle.words.proofs.Tests.{eqb-same, eqb-other}
 use Rattle.rings.specs.Rings.{around}
 

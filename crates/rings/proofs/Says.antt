@@ -76,7 +76,8 @@ says-ring G u K =
 pub triangle-says : (G : List (List ℕ)) (u : ℕ) → triangleRule G u ≡ true → (v w : ℕ) → Follows G u v w → Follows G v w u
 unfolding triangleRule follows
 triangle-says G u t v w f =
-    after-follows G v w u (next-says w u (around (ring G v)) (all-next-says (λ v w. follows G v w u) (around (ring G u)) (holds (triangleRule G u) t) v w (follows-after G u v w f)))
+    after-follows G v w u
+    (next-says w u (around (ring G v)) (all-next-says (λ v w. follows G v w u) (around (ring G u)) (holds (triangleRule G u) t) v w (follows-after G u v w f)))
 
 pub says-triangle : (G : List (List ℕ)) (u : ℕ) → ((v w : ℕ) → Follows G u v w → Follows G v w u) → triangleRule G u ≡ true
 unfolding triangleRule follows

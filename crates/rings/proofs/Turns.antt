@@ -54,9 +54,9 @@ pub around-length : (x : ℕ) (l : List ℕ) → length (around (x ∷ l)) ≡ s
 unfolding around
 around-length x l = omega (arith, length-append (x ∷ l) (x ∷ []))
 
-pub around-in : (l : List ℕ) (j : ℕ) → j < length l → getD (around l) j 0 ≡ getD l j 0
+pub around-place : (l : List ℕ) (j : ℕ) → j < length l → getD (around l) j 0 ≡ getD l j 0
 unfolding around
-around-in l j h = List·getD-append l (take 1 l) 0 j h
+around-place l j h = List·getD-append l (take 1 l) 0 j h
 
 pub around-end : (l : List ℕ) → 0 < length l → getD (around l) (length l) 0 ≡ getD l 0 0
 unfolding around
@@ -79,70 +79,72 @@ module _ (l : List ℕ) (j : ℕ) (h : j < length l) where
   onward : drop (j + 1) (around l) ≡ getD (around l) (j + 1) 0 ∷ drop (suc (suc j)) (around l)
   onward = rw add-one (drop-cons (around l) (suc j) 0 (omega (arith, long)))
 
-  pub next-step : (a b : ℕ) → next a b (drop j (around l)) ≡ ((eqb (getD (around l) j 0) a && eqb (getD (around l) (j + 1) 0) b) || next a b (drop (j + 1) (around l)))
+  pub next-step : (a b : ℕ)
+      → next a b (drop j (around l)) ≡ ((eqb (getD (around l) j 0) a && eqb (getD (around l) (j + 1) 0) b) || next a b (drop (j + 1) (around l)))
   unfolding next
   next-step a b = rw onward (ap (next a b) (two (around l) j long))
 
-  pub all-next-step : (p : ℕ → ℕ → Bool) → allNext p (drop j (around l)) ≡ (p (getD (around l) j 0) (getD (around l) (j + 1) 0) && allNext p (drop (j + 1) (around l)))
+  pub all-next-step : (p : ℕ → ℕ → Bool)
+      → allNext p (drop j (around l)) ≡ (p (getD (around l) j 0) (getD (around l) (j + 1) 0) && allNext p (drop (j + 1) (around l)))
   unfolding allNext
   all-next-step p = rw onward (ap (allNext p) (two (around l) j long))
 
-last-alone : (l : List ℕ) → drop (length l) (around l) ≡ take 1 l
+around-rest : (l : List ℕ) → drop (length l) (around l) ≡ take 1 l
 unfolding around
-last-alone l = drop-append-seam l (take 1 l)
+around-rest l = drop-append-seam l (take 1 l)
 
 pub next-end : (l : List ℕ) (a b : ℕ) → next a b (drop (length l) (around l)) ≡ false
 unfolding next
-next-end [] a b = rw last-alone
-next-end (x ∷ l) a b = rw last-alone
+next-end [] a b = rw around-rest
+next-end (x ∷ l) a b = rw around-rest
 
 pub all-next-end : (l : List ℕ) (p : ℕ → ℕ → Bool) → allNext p (drop (length l) (around l)) ≡ true
 unfolding allNext
-all-next-end [] p = rw last-alone
-all-next-end (x ∷ l) p = rw last-alone
+all-next-end [] p = rw around-rest
+all-next-end (x ∷ l) p = rw around-rest
 
 -- the entry at place i of a list from b to e that is read around, and the one after it
 module _ (l : List ℕ) (b e i : ℕ) (h : b ≤ i) (k : i < e) (m : e ≤ length l) where
-  pub around-here : getD (around (slice b e l)) (i - b) 0 ≡ getD l i 0
-  around-here = around-in (slice b e l) (i - b) (omega (arith, length-slice b e l m)) ∙ part-at l b e i h k m
+  abbrev A : List ℕ
+  A = around (slice b e l)
 
-  pub around-after : i + 1 < e → getD l (i + 1) 0 ≡ getD (around (slice b e l)) (i - b + 1) 0
+  pub around-here : getD A (i - b) 0 ≡ getD l i 0
+  around-here = around-place (slice b e l) (i - b) (omega (arith, length-slice b e l m)) ∙ part-at l b e i h k m
+
+  pub around-after : i + 1 < e → getD l (i + 1) 0 ≡ getD A (i - b + 1) 0
   around-after n =
       let q : i + 1 - b ≡ i - b + 1 = omega arith in
-      sym (around-in (slice b e l) (i - b + 1) (omega (arith, length-slice b e l m)) ∙ rw q at (part-at l b e (i + 1) (omega arith) n m))
+      sym (around-place (slice b e l) (i - b + 1) (omega (arith, length-slice b e l m)) ∙ rw q at (part-at l b e (i + 1) (omega arith) n m))
 
-  pub around-first : e ≤ i + 1 → getD l b 0 ≡ getD (around (slice b e l)) (i - b + 1) 0
+  pub around-first : e ≤ i + 1 → getD l b 0 ≡ getD A (i - b + 1) 0
   around-first n =
       let q : length (slice b e l) ≡ i - b + 1 = omega (arith, length-slice b e l m) in
       let z : b - b ≡ 0 = omega arith in
       sym (rw q at (around-end (slice b e l) (omega (arith, length-slice b e l m))) ∙ rw z at (part-at l b e b (omega arith) (omega arith) m))
 
-  pub here-not : (a : ℕ) (y : Bool) → (getD l i 0 ≡ a → ⊥) → false ≡ (eqb (getD (around (slice b e l)) (i - b) 0) a && y)
+  pub here-not : (a : ℕ) (y : Bool) → (getD l i 0 ≡ a → ⊥) → false ≡ (eqb (getD A (i - b) 0) a && y)
   here-not a y n = rw (around-here, ne-eqb (getD l i 0) a n) refl
 
-  pub here-is : (a : ℕ) (y : Bool) → getD l i 0 ≡ a → y ≡ (eqb (getD (around (slice b e l)) (i - b) 0) a && y)
+  pub here-is : (a : ℕ) (y : Bool) → getD l i 0 ≡ a → y ≡ (eqb (getD A (i - b) 0) a && y)
   here-is a y q = rw (around-here, eq-eqb (getD l i 0) a q) refl
 
   -- one turn of a loop around
-  abbrev A : List ℕ
-  A = around (slice b e l)
-
   turn : i + 1 - b ≡ i - b + 1
   turn = omega arith
 
   -- what is left at place i begins with this entry and the next, what is left after it with the next
-  pub pair-here : drop (i - b) (around (slice b e l)) ≡ getD (around (slice b e l)) (i - b) 0 ∷ getD (around (slice b e l)) (i - b + 1) 0 ∷ drop (suc (suc (i - b))) (around (slice b e l))
-  pair-here = two (around (slice b e l)) (i - b) (long (slice b e l) (i - b) (omega (arith, length-slice b e l m)))
+  pub pair-here : drop (i - b) A ≡ getD A (i - b) 0 ∷ getD A (i - b + 1) 0 ∷ drop (suc (suc (i - b))) A
+  pair-here = two A (i - b) (long (slice b e l) (i - b) (omega (arith, length-slice b e l m)))
 
-  pub pair-next : drop (i + 1 - b) (around (slice b e l)) ≡ getD (around (slice b e l)) (i - b + 1) 0 ∷ drop (suc (suc (i - b))) (around (slice b e l))
+  pub pair-next : drop (i + 1 - b) A ≡ getD A (i - b + 1) 0 ∷ drop (suc (suc (i - b))) A
   pair-next = rw turn (onward (slice b e l) (i - b) (omega (arith, length-slice b e l m)))
 
-  pub next-turn : (a c : ℕ) → next a c (drop (i - b) (around (slice b e l)))
-      ≡ ((eqb (getD (around (slice b e l)) (i - b) 0) a && eqb (getD (around (slice b e l)) (i - b + 1) 0) c) || next a c (drop (i + 1 - b) (around (slice b e l))))
+  pub next-turn : (a c : ℕ) → next a c (drop (i - b) A)
+      ≡ ((eqb (getD A (i - b) 0) a && eqb (getD A (i - b + 1) 0) c) || next a c (drop (i + 1 - b) A))
   next-turn a c = rw turn (next-step (slice b e l) (i - b) (omega (arith, length-slice b e l m)) a c)
 
-  pub all-next-turn : (p : ℕ → ℕ → Bool) → allNext p (drop (i - b) (around (slice b e l)))
-      ≡ (p (getD (around (slice b e l)) (i - b) 0) (getD (around (slice b e l)) (i - b + 1) 0) && allNext p (drop (i + 1 - b) (around (slice b e l))))
+  pub all-next-turn : (p : ℕ → ℕ → Bool) → allNext p (drop (i - b) A)
+      ≡ (p (getD A (i - b) 0) (getD A (i - b + 1) 0) && allNext p (drop (i + 1 - b) A))
   all-next-turn p = rw turn (all-next-step (slice b e l) (i - b) (omega (arith, length-slice b e l m)) p)
 
 module _ (l : List ℕ) (b e : ℕ) (h : b ≤ e) (m : e ≤ length l) where

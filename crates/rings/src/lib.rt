@@ -109,7 +109,8 @@ pub fn after(ents: &[u16], b: usize, e: usize, i: usize) -> u16
 // At place i stands a, and c after it.
 fn linked(ents: &[u16], b: usize, e: usize, i: usize, a: u16, c: u16) -> bool
     requires { ⌜ (b ≤ i) × (i < e) × (e ≤ length (now ents)) ⌝ }
-    ensures { λ r. ⌜ r ≡ (eqb (getD (around (slice b e (now (ents .entry)))) (i - b) 0) a && eqb (getD (around (slice b e (now (ents .entry)))) (i - b + 1) 0) c) ⌝ }
+    ensures { λ r. ⌜ r ≡ (eqb (getD (around (slice b e (now (ents .entry)))) (i - b) 0) a
+        && eqb (getD (around (slice b e (now (ents .entry)))) (i - b + 1) 0) c) ⌝ }
 {
     if ents[i] != a {
         return false;
@@ -147,7 +148,8 @@ fn is_after(ents: &[u16], at: &[u16], v: u16, a: u16, c: u16) -> bool
 // The triangle rule holds at u for the entry at place i, of u's list from b to e, and the one after it.
 fn closes(ents: &[u16], at: &[u16], u: usize, b: usize, e: usize, i: usize) -> bool
     requires { ⌜ Cuts (now at) (now ents) × (length (now at) ≤ limit + 1) × (b ≤ i) × (i < e) × (e ≤ length (now ents)) × (u ≤ limit) ⌝ }
-    ensures { λ r. ⌜ r ≡ follows (held (now (at .entry)) (now (ents .entry))) (getD (around (slice b e (now (ents .entry)))) (i - b) 0) (getD (around (slice b e (now (ents .entry)))) (i - b + 1) 0) u ⌝ }
+    ensures { λ r. ⌜ r ≡ follows (held (now (at .entry)) (now (ents .entry))) (getD (around (slice b e (now (ents .entry)))) (i - b) 0)
+        (getD (around (slice b e (now (ents .entry)))) (i - b + 1) 0) u ⌝ }
 {
     is_after(ents, at, ents[i], after(ents, b, e, i), u as u16)
 }

@@ -10,7 +10,7 @@ use borrow.Author.Tests.{lt-ltb, le-ltb, le-leb, lt-leb}
 use Rattle.block.specs.Layout.{limit, entries}
 use Rattle.block.specs.Block.{posts, lists}
 use Rattle.rings.specs.Held.{held}
-use Rattle.order.specs.Held.{Ranked}
+use Rattle.order.specs.Ranked.{Ranked}
 use Rattle.order.proofs.Sound.{Passes}
 use Rattle.placing.specs.Stages.{stage}
 use Rattle.placing.specs.Records.{recordOf, entriesOf}

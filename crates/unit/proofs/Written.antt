@@ -80,8 +80,8 @@ module _ (p q : Places) (Post : ℕ → Type 0) (same-x : (u : ℕ) → Post u �
       }
 
   same-meet : (W : ℕ → ℕ → Type 0) → ((a b : ℕ) → W a b → Post a × Post b) → NoneMeet q W → NoneMeet p W
-  same-meet W ends none a b c e w v n P on off =
-      let t = none a b c e w v n P (same-on (ends a b w .0) (ends a b w .1) on) (same-on (ends c e v .0) (ends c e v .1) off) in
+  same-meet W ends none a b c e w v n m =
+      let t = none a b c e w v n (m .0, same-on (ends a b w .0) (ends a b w .1) (m .1), same-on (ends c e v .0) (ends c e v .1) (m .2)) in
       (t .0, t .1, t .2, same-at (end-post (t .0) (t .1)) (t .3))
     where
       end-post : (z : ℕ) → End z a b → Post z

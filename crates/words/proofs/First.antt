@@ -61,21 +61,6 @@ module _ (p : ℕ → Bool) where
           record { from = omega arith; to = omega arith; before = λ j a b. absurd (omega arith); there = λ h. rw f e }
       go false e F = rw (first-false i k e) (step i k e F)
 
-  -- and no other number is
-  pub first-only : (i k r : ℕ) → IsFirst i k p r → r ≡ first i k p
-  first-only i k r F = go (decLt r (first i k p)) (decLt (first i k p) r)
-    where
-      S : IsFirst i k p (first i k p)
-      S = first-is k i
-
-      clash : {b : Bool} → b ≡ true → b ≡ false → ⊥
-      clash s t = true≢false (sym s ∙ t)
-
-      go : Dec (r < first i k p) → Dec (first i k p < r) → r ≡ first i k p
-      go (yes h) d = absurd (clash (F .there (omega (arith, S .to))) (S .before r (F .from) h))
-      go (no n) (yes h) = absurd (clash (S .there (omega arith)) (F .before (first i k p) (S .from) h))
-      go (no n) (no m) = omega arith
-
   -- there is one, if some number of them passes the test; and if there is one, the first passes it
   pub some-true : (i k j : ℕ) → i ≤ j → j < i + k → p j ≡ true → some i k p ≡ true
   unfolding some

@@ -1,22 +1,12 @@
 -- Lists of names: membership, neighbours in a list, and a stretch of a list.
 use mathlib.Core.Path.{_≡_, refl, sym, ap, _∙_, subst}
-use mathlib.Core.Logic.{_⊎_, inl, inr}
+use mathlib.Core.Logic.{inl, inr}
 use Prim.Native.Nat.{ℕ, zero, suc, _≤_, _<_}
 use native.Mathlib.Omega.{arith}
 use native.Mathlib.Decide.{ℕ-discrete}
 use lib.ListN.{length, length-append}
 use mathlib.Core.List.{List, [], _∷_, _++_, append-assoc}
-use Rattle.words.specs.Lists.{In, lastOf}
-
--- b is the first of the list
-abbrev pub Head : List ℕ → ℕ → Type 0
-Head [] b = ⊥
-Head (y ∷ l) b = y ≡ b
-
--- b stands right after a
-abbrev pub Adj : List ℕ → ℕ → ℕ → Type 0
-Adj [] a b = ⊥
-Adj (x ∷ l) a b = ((x ≡ a) × Head l b) ⊎ Adj l a b
+use Rattle.words.specs.Lists.{In, Head, Adj, lastOf}
 
 -- no name stands twice
 abbrev pub Once : List ℕ → Type 0
@@ -53,6 +43,19 @@ module _ (a : ℕ) where
   cut-at (x ∷ l) (inl e) = ([], l, rw e)
   cut-at (x ∷ l) (inr h) = let t = cut-at l h in (x ∷ t .0, t .1, ap (λ (r : List ℕ). x ∷ r) (t .2))
 
+pub filled : (l : List ℕ) (a : ℕ) → In a l → 0 < length l
+filled [] a h = absurd h
+filled (x ∷ l) a h = omega arith
+
+-- a stretch p, M, q of a list has members of the list
+pub in-run : (u : ℕ) (L : List ℕ) (p : ℕ) (M : List ℕ) (q : ℕ) (R : List ℕ) → In u (p ∷ (M ++ q ∷ [])) → In u (L ++ p ∷ (M ++ q ∷ R))
+in-run u L p M q R (inl e) = in-right u L _ (inl e)
+in-run u L p M q R (inr h) = in-right u L _ (inr (in-cases u M (q ∷ []) (in-left u M (q ∷ R)) last h))
+  where
+    last : In u (q ∷ []) → In u (M ++ q ∷ R)
+    last (inl e) = in-right u M (q ∷ R) (inl e)
+    last (inr i) = absurd i
+
 module _ (a b : ℕ) where
   pub adj-in-left : (l : List ℕ) → Adj l a b → In a l
   adj-in-left [] h = absurd h
@@ -74,6 +77,13 @@ module _ (a b : ℕ) where
   adj-left (x ∷ X) p Z (inl h) = inl (h .0, head-same b X p [] Z (h .1))
   adj-left (x ∷ X) p Z (inr h) = inr (adj-left X p Z h)
 
+  pub adj-more : (l : List ℕ) (z : ℕ) → Adj l a b → Adj (l ++ z ∷ []) a b
+  adj-more [] z h = absurd h
+  adj-more (x ∷ []) z (inl h) = absurd (h .1)
+  adj-more (x ∷ []) z (inr h) = absurd h
+  adj-more (x ∷ y ∷ l) z (inl h) = inl h
+  adj-more (x ∷ y ∷ l) z (inr h) = inr (adj-more (y ∷ l) z h)
+
   -- neighbours in a list that is cut at p (and p stays in both parts)
   pub adj-cases : {C : Type 0} (X : List ℕ) (p : ℕ) (Z : List ℕ) → (Adj (X ++ p ∷ []) a b → C) → (Adj (p ∷ Z) a b → C) → Adj (X ++ p ∷ Z) a b → C
   adj-cases [] p Z f g h = g h
@@ -88,7 +98,8 @@ module _ (a b : ℕ) where
   once-next (x ∷ X) Z o (inr h) = once-next X Z (o .1) h
 
 -- a list whose neighbours are neighbours in W, where nobody stands twice, is a stretch of W
-pub stretch : (W : List ℕ) → Once W → (M X : List ℕ) (p : ℕ) (Z : List ℕ) → W ≡ X ++ p ∷ Z → ((a b : ℕ) → Adj (p ∷ M) a b → Adj W a b) → (Y : List ℕ) × (Z ≡ M ++ Y)
+pub stretch : (W : List ℕ) → Once W → (M X : List ℕ) (p : ℕ) (Z : List ℕ) → W ≡ X ++ p ∷ Z → ((a b : ℕ) → Adj (p ∷ M) a b → Adj W a b)
+    → (Y : List ℕ) × (Z ≡ M ++ Y)
 stretch W o [] X p Z e h = (Z, refl)
 stretch W o (m ∷ M) X p Z e h = go (stretch W o M) Z e (once-next p m X Z (rw e at o) (rw e at (h p m (inl (refl, refl)))))
   where

@@ -40,14 +40,6 @@ unfolding wordsAt
 words-length s zero i = refl
 words-length s (suc k) i = ap suc (words-length s k (i + 2))
 
-pub words-at : (s : List ℕ) (k i j : ℕ) → j < k → getD (wordsAt s i k) j 0 ≡ wordAt s (i + 2 * j)
-unfolding wordsAt
-words-at s zero i j h = absurd (omega arith)
-words-at s (suc k) i zero h = let e : i ≡ i + 2 * 0 = omega arith in ap (wordAt s) e
-words-at s (suc k) i (suc j) h =
-    let e : i + 2 + 2 * j ≡ i + 2 * suc j = omega arith in
-    words-at s k (i + 2) j (omega arith) ∙ ap (wordAt s) e
-
 pub sum-none : (l : List ℕ) → sumOf (take 0 l) ≡ 0
 unfolding sumOf
 sum-none l = refl

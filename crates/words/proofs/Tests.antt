@@ -3,12 +3,10 @@ use mathlib.Core.Path.{_≡_, refl, sym, ap, _∙_}
 use mathlib.Core.Logic.{inl, inr}
 use mathlib.Core.Bool.{Bool, true, false, not, cond, _&&_, _||_}
 use mathlib.Core.List.{List, [], _∷_, _++_}
-use Prim.Native.Nat.{ℕ, zero, suc, _+_, _-_, _≤_, _<_}
+use Prim.Native.Nat.{ℕ, zero, suc, _+_, _≤_, _<_}
 use native.Mathlib.Omega.{arith}
-use native.Mathlib.Numerals.{add-one}
 use lib.Dec.{T, eqb, eqb→eq, eqb-refl, T-not, not-T}
 use lib.ListN.{length, getD}
-use Rattle.words.specs.First.{numbers}
 use Rattle.words.specs.Lists.{In, Different, mem, allOf, anyOf, count}
 use Rattle.words.proofs.Lists.{Once}
 
@@ -74,6 +72,12 @@ unfolding mem
 in-mem [] a h = h
 in-mem (x ∷ l) a (inl e) = or-left (eqb a x) (mem l a) (rw e (eqb-refl x))
 in-mem (x ∷ l) a (inr h) = or-right (eqb a x) (mem l a) (in-mem l a h)
+
+pub mem-true : (l : List ℕ) (a : ℕ) → In a l → mem l a ≡ true
+mem-true l a h = is-true (mem l a) (in-mem l a h)
+
+pub mem-false : (l : List ℕ) (a : ℕ) → ¬ (In a l) → mem l a ≡ false
+mem-false l a n = is-false (mem l a) (λ t. n (mem-in l a t))
 
 -- ---- each entry, some entry, none
 module _ (p : ℕ → Bool) where
@@ -174,15 +178,6 @@ module _ (p : ℕ → Bool) where
   two-count (x ∷ l) a b n (inr h) (inl f) s t = let c = count-here x l (rw f at t) in let d = count-some l a h s in omega arith
   two-count (x ∷ l) a b n (inr h) (inr i) s t = let c = two-count l a b n h i s t in let d = count-more x l in omega arith
 
-  -- counting in a loop over i below e
-  pub count-end : (i e : ℕ) → e ≤ i → count p (numbers i (e - i)) ≡ 0
-  unfolding numbers count
-  count-end i e h = let z : e - i ≡ 0 = omega arith in rw z
-
-  pub count-next : (i e : ℕ) → i < e → count p (numbers i (e - i)) ≡ cond (p i) 1 0 + count p (numbers (i + 1) (e - (i + 1)))
-  unfolding numbers count
-  count-next i e h = let z : e - i ≡ suc (e - suc i) = omega arith in rw (z, add-one)
-
 -- ---- no name stands twice
 -- each entry occurs once in the list, counted
 pub once-count : (l : List ℕ) → Once l → (a : ℕ) → In a l → count (eqb a) l ≡ 1
@@ -194,7 +189,8 @@ once-count (x ∷ l) o a (inr h) = count-not (eqb a) x l (λ t. o .0 (rw (← eq
 pub count-once : (l : List ℕ) → ((a : ℕ) → In a l → count (eqb a) l ≡ 1) → Once l
 count-once [] h = tt
 count-once (x ∷ l) h =
-    let n : ¬ (In x l) = λ i. let c = h x (inl refl) in let d = count-here (eqb x) x l (eqb-refl x) in let e = count-some (eqb x) l x i (eqb-refl x) in omega arith in
+    let n : ¬ (In x l) =
+    λ i. omega (arith, h x (inl refl), count-here (eqb x) x l (eqb-refl x), count-some (eqb x) l x i (eqb-refl x)) in
     (n, count-once l (λ a i. sym (count-not (eqb a) x l (λ t. n (rw (eqb→eq a x t) at i))) ∙ h a (inr i)))
 
 -- an entry has a place

@@ -12,6 +12,16 @@ abbrev pub In : ℕ → List ℕ → Type 0
 In a [] = ⊥
 In a (x ∷ l) = (a ≡ x) ⊎ In a l
 
+-- b is the first of the list
+abbrev pub Head : List ℕ → ℕ → Type 0
+Head [] b = ⊥
+Head (y ∷ l) b = y ≡ b
+
+-- b stands right after a
+abbrev pub Adj : List ℕ → ℕ → ℕ → Type 0
+Adj [] a b = ⊥
+Adj (x ∷ l) a b = ((x ≡ a) × Head l b) ⊎ Adj l a b
+
 -- no two places of the list hold the same entry
 abbrev pub Different : List ℕ → Type 0
 Different l = (i j : ℕ) → i < length l → j < length l → getD l i 0 ≡ getD l j 0 → i ≡ j

@@ -12,7 +12,8 @@ use borrow.Author.Needs.{needs}
 
 abbrev Inv-loop : tie.InvT-loop
 Inv-loop vs marks₀ n k₀ marks k =
-    (1 ≤ k) × (k ≤ length vs + 1) × (length marks ≡ length marks₀) × Marked vs marks k × (first 1 (length vs) (badEntry (length vs) vs) ≡ first k (length vs + 1 - k) (badEntry (length vs) vs))
+    (1 ≤ k) × (k ≤ length vs + 1) × (length marks ≡ length marks₀) × Marked vs marks k
+    × (first 1 (length vs) (badEntry (length vs) vs) ≡ first k (length vs + 1 - k) (badEntry (length vs) vs))
 
 abbrev μ-loop : tie.MeasureT-loop
 μ-loop vs marks₀ n k₀ marks k = length vs + 1 - k
@@ -53,10 +54,11 @@ same-length-2 c = search needs
 returns-2 : tie.Need-returns-2 Inv-loop μ-loop
 returns-2 c =
     let number = c .before .before .before .number in
-    let v = c .before .before .before .before .before .before .loop in
-    let l = c .before .before .before .before .before .before .before .before .before .args .vs .now in
-    let e = number .ensures .0 in
-    sym (v .inv .4 ∙ first-here _ (v .k) (length l + 1) (omega arith) (entry-low (length l) l (v .k) (omega arith) ∙ seen l (v .marks) (v .k) (number .result) e (v .inv .3) (omega arith) (c .if2 .taken)))
+    let turn = c .before .before .before .before .before .before in
+    let v = turn .loop in
+    let l = turn .before .before .before .args .vs .now in
+    let again = seen l (v .marks) (v .k) (number .result) (number .ensures .0) (v .inv .3) (omega arith) (c .if2 .taken) in
+    sym (v .inv .4 ∙ first-here _ (v .k) (length l + 1) (omega arith) (entry-low (length l) l (v .k) (omega arith) ∙ again))
 
 slice-write-marks : tie.Need-slice-write-marks Inv-loop μ-loop
 slice-write-marks c = search needs
@@ -70,14 +72,16 @@ loop-less c = search needs
 loop-again : tie.Need-loop-again Inv-loop μ-loop
 loop-again c =
     let number = c .before .before .before .number in
-    let v = c .before .before .before .before .before .before .loop in
-    let l = c .before .before .before .before .before .before .before .before .before .args .vs .now in
-    let e = number .ensures .0 in (
+    let turn = c .before .before .before .before .before .before in
+    let v = turn .loop in
+    let l = turn .before .before .before .args .vs .now in
+    let e = number .ensures .0 in
+    let new = unseen l (v .marks) (v .k) (number .result) e (v .inv .3) (omega arith) (c .if2 .left) in (
       search needs,
       search needs,
       search needs,
       mark-more l (v .marks) (v .k) (number .result) e (v .inv .3) (omega arith) (omega arith) (omega arith),
-      v .inv .4 ∙ first-next _ (v .k) (length l + 1) (omega arith) (entry-low (length l) l (v .k) (omega arith) ∙ unseen l (v .marks) (v .k) (number .result) e (v .inv .3) (omega arith) (c .if2 .left)),
+      v .inv .4 ∙ first-next _ (v .k) (length l + 1) (omega arith) (entry-low (length l) l (v .k) (omega arith) ∙ new),
     )
 
 same-length-3 : tie.Need-same-length-3 Inv-loop μ-loop

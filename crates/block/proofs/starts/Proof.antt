@@ -65,7 +65,8 @@ returns : tie.Need-returns Inv-loop μ-loop
 returns c =
     let v = c .before .loop in
     let l = c .before .before .args .ds .now in
-    λ u h. store-more (λ k x. x ≡ sumOf (take k l)) (v .at) (v .u) (v .t) (omega arith) (v .inv .3) (v .inv .2) u (omega (arith, length-set (v .at) (v .u) (v .t)))
+    λ u h. store-more (λ k x. x ≡ sumOf (take k l)) (v .at) (v .u) (v .t) (omega arith) (v .inv .3) (v .inv .2) u
+    (omega (arith, length-set (v .at) (v .u) (v .t)))
 
 pub starts-spec : {M : Type 1} → statement M
 starts-spec =

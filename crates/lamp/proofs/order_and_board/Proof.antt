@@ -6,7 +6,7 @@ use Prim.Native.Nat.{ℕ}
 use mathlib.Core.Path.{sym, ap, _∙_, subst}
 use mathlib.Core.List.{List}
 use Rattle.block.specs.Block.{posts}
-use Rattle.order.specs.Held.{Ranked}
+use Rattle.order.specs.Ranked.{Ranked}
 use Rattle.lamp.specs.Given.{given}
 use Rattle.lamp.specs.Refusals.{numberOf, placeOf, replyOf}
 use Rattle.lamp.specs.Held.{ringRows, rowsFrom}

@@ -13,7 +13,8 @@ use Rattle.order.proofs.Ranked.{before-says}
 use borrow.Author.Needs.{needs}
 
 abbrev Inv-loop : tie.InvT-loop
-Inv-loop ents b e vs rank k c₀ i₀ c i = (b ≤ i) × (i ≤ e) × (c + count (mem (earlier vs k)) (slice i e ents) ≡ count (mem (earlier vs k)) (slice b e ents)) × (c ≤ i)
+Inv-loop ents b e vs rank k c₀ i₀ c i =
+    (b ≤ i) × (i ≤ e) × (c + count (mem (earlier vs k)) (slice i e ents) ≡ count (mem (earlier vs k)) (slice b e ents)) × (c ≤ i)
 
 abbrev μ-loop : tie.MeasureT-loop
 μ-loop ents b e vs rank k c₀ i₀ c i = e - i
@@ -62,8 +63,9 @@ returns : tie.Need-returns Inv-loop μ-loop
 returns c =
     let v = c .before .loop in
     let a = c .before .before .before .before .before .args in
+    let p = mem (earlier (a .vs .now) (a .k)) in
     let q : v .i ≡ a .e = omega arith in
-    let z : count (mem (earlier (a .vs .now) (a .k))) (slice (v .i) (a .e) (a .ents .now)) ≡ 0 = rw q (count-end (a .ents .now) (a .e) (mem (earlier (a .vs .now) (a .k)))) in
+    let z : count p (slice (v .i) (a .e) (a .ents .now)) ≡ 0 = rw q (count-end (a .ents .now) (a .e) p) in
     omega arith
 
 pub count-before-spec : {M : Type 1} → statement M

@@ -9,12 +9,14 @@ use lib.Seq.{slice}
 use Rattle.words.specs.Positions.{earlier}
 use Rattle.rings.specs.Rings.{around}
 use Rattle.rings.proofs.Turns.{around-start}
-use Rattle.order.specs.Held.{starts}
-use Rattle.order.proofs.Ranked.{starts-turn, starts-done}
+use Rattle.order.specs.Ranked.{starts}
+use Rattle.order.proofs.Ranked.{starts-step, starts-done}
 use borrow.Author.Needs.{needs}
 
 abbrev Inv-loop : tie.InvT-loop
-Inv-loop ents b e vs rank k c₀ i₀ c i = (b ≤ i) × (i ≤ e) × (c + starts (earlier vs k) (drop (i - b) (around (slice b e ents))) ≡ starts (earlier vs k) (around (slice b e ents))) × (c ≤ i)
+Inv-loop ents b e vs rank k c₀ i₀ c i =
+    (b ≤ i) × (i ≤ e) × (c + starts (earlier vs k) (drop (i - b) (around (slice b e ents))) ≡ starts (earlier vs k) (around (slice b e ents)))
+    × (c ≤ i)
 
 abbrev μ-loop : tie.MeasureT-loop
 μ-loop ents b e vs rank k c₀ i₀ c i = e - i
@@ -22,7 +24,8 @@ abbrev μ-loop : tie.MeasureT-loop
 loop-holds : tie.Need-loop-holds Inv-loop μ-loop
 loop-holds c =
     let a = c .before .before .before .args in
-    (search needs, search needs, omega (arith, around-start (a .ents .now) (a .b) (a .e) (omega arith) (omega arith) (starts (earlier (a .vs .now) (a .k)))), search needs)
+    let all = around-start (a .ents .now) (a .b) (a .e) (omega arith) (omega arith) (starts (earlier (a .vs .now) (a .k))) in
+    (search needs, search needs, omega (arith, all), search needs)
 
 is-start-requires : tie.Need-is-start-requires Inv-loop μ-loop
 is-start-requires c κs =
@@ -45,14 +48,17 @@ loop-again : tie.Need-loop-again Inv-loop μ-loop
 loop-again c =
     let v = c .before .before .before .loop in
     let a = c .before .before .before .before .before .before .before .args in
-    omega (arith, starts-turn (earlier (a .vs .now) (a .k)) (a .ents .now) (a .b) (a .e) (v .i) (omega arith) (omega arith) (omega arith), c .one-if .ensures, ap {B = ℕ} (λ (z : Bool). cond z 1 0) (c .before .is-start .ensures))
+    let step = starts-step (earlier (a .vs .now) (a .k)) (a .ents .now) (a .b) (a .e) (v .i) (omega arith) (omega arith) (omega arith) in
+    omega (arith, step, c .one-if .ensures, ap {B = ℕ} (λ (z : Bool). cond z 1 0) (c .before .is-start .ensures))
 
 returns : tie.Need-returns Inv-loop μ-loop
 returns c =
     let v = c .before .loop in
     let a = c .before .before .before .before .before .args in
+    let P = earlier (a .vs .now) (a .k) in
     let q : v .i ≡ a .e = omega arith in
-    let z : starts (earlier (a .vs .now) (a .k)) (drop (v .i - a .b) (around (slice (a .b) (a .e) (a .ents .now)))) ≡ 0 = rw q (starts-done (earlier (a .vs .now) (a .k)) (a .ents .now) (a .b) (a .e) (omega arith) (omega arith)) in
+    let z : starts P (drop (v .i - a .b) (around (slice (a .b) (a .e) (a .ents .now)))) ≡ 0 =
+    rw q (starts-done P (a .ents .now) (a .b) (a .e) (omega arith) (omega arith)) in
     omega arith
 
 pub count-starts-spec : {M : Type 1} → statement M

@@ -41,8 +41,8 @@ shared-slice-read-is-before-2 c = search needs
 is-before-requires-2 : tie.Need-is-before-requires-2 Inv-loop μ-loop
 is-before-requires-2 c κs = c .before .before .before .before .before .before .before .pre .2 (c .before .before .loop .i) (omega arith) (omega arith)
 
-begins-requires : tie.Need-begins-requires Inv-loop μ-loop
-begins-requires c κs = search needs
+is-opening-requires : tie.Need-is-opening-requires Inv-loop μ-loop
+is-opening-requires c κs = search needs
 
 mul-result : tie.Need-mul-result Inv-loop μ-loop
 mul-result c = search needs
@@ -55,7 +55,7 @@ returns c =
     let entry = c .before .before .before .before .before .before .before .before .before .before .before in
     let loop = c .before .before .before .before .before .before .loop in
     let is-before2 = c .before .before .before .is-before2 in
-    sym (opens-here _ _ _ (entry .args .ents .now) (loop .i) (entry .args .e) (omega arith) (omega arith) (is-before2 .result) (c .before .before .begins .result) (is-before2 .ensures) (c .before .before .begins .ensures) (c .before .if1 .taken)) ∙ loop .inv .2
+    sym (opens-here _ _ _ (entry .args .ents .now) (loop .i) (entry .args .e) (omega arith) (omega arith) (is-before2 .result) (c .before .before .is-opening .result) (is-before2 .ensures) (c .before .before .is-opening .ensures) (c .before .if1 .taken)) ∙ loop .inv .2
 
 add-i : tie.Need-add-i Inv-loop μ-loop
 add-i c = search needs
@@ -67,7 +67,7 @@ loop-again : tie.Need-loop-again Inv-loop μ-loop
 loop-again c =
     let entry = c .before .before .before .before .before .before .before .before .before .before in
     let loop = c .before .before .before .before .before .loop in
-    (search needs, search needs, sym (opens-next _ _ _ (entry .args .ents .now) (loop .i) (entry .args .e) (omega arith) (omega arith) (c .before .before .is-before2 .result) (c .before .begins .result) (c .before .before .is-before2 .ensures) (c .before .begins .ensures) (c .if1 .left)) ∙ loop .inv .2)
+    (search needs, search needs, sym (opens-next _ _ _ (entry .args .ents .now) (loop .i) (entry .args .e) (omega arith) (omega arith) (c .before .before .is-before2 .result) (c .before .is-opening .result) (c .before .before .is-before2 .ensures) (c .before .is-opening .ensures) (c .if1 .left)) ∙ loop .inv .2)
 
 returns-2 : tie.Need-returns-2 Inv-loop μ-loop
 returns-2 c =
@@ -88,7 +88,7 @@ run-begins-spec =
     mul-is-before-2
     shared-slice-read-is-before-2
     is-before-requires-2
-    begins-requires
+    is-opening-requires
     mul-result
     shared-slice-read-result
     returns

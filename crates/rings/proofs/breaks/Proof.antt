@@ -2,8 +2,7 @@ use borrow.Author.Needs.{needs}
 use Rattle.rings.proofs.breaks.Statement.{statement}
 use Rattle.rings.proofs.breaks.Tie as tie
 use native.Mathlib.Omega.{arith}
-use Rattle.rings.proofs.Held.{breaks-high, breaks-self, breaks-twice, breaks-alone}
-use Prim.Native.Nat.{_+_}
+use Rattle.rings.proofs.Held.{part-within, breaks-high, breaks-self, breaks-twice, breaks-alone}
 
 number-requires : tie.Need-number-requires
 number-requires c κs = search needs
@@ -14,14 +13,18 @@ sub-if1 c = search needs
 returns : tie.Need-returns
 returns c =
     let entry = c .before .before .before .before in
-    let e = c .before .number .ensures .0 in
-    rw (← e) (breaks-high (entry .args .at .now) (entry .args .ents .now) (entry .args .u) (c .before .number .result) (c .if1 .taken))
+    let number = c .before .number in
+    let e = number .ensures .0 in
+    rw (← e) (breaks-high (entry .args .at .now) (entry .args .ents .now) (entry .args .u) (number .result) (c .if1 .taken))
 
 returns-2 : tie.Need-returns-2
 returns-2 c =
     let entry = c .before .before .before .before .before in
-    let e = c .before .before .number .ensures .0 in
-    rw (← e) (breaks-self (entry .args .at .now) (entry .args .ents .now) (entry .args .u) (c .before .before .number .result) (c .before .if1 .left) (c .if2 .taken))
+    let number = c .before .before .number in
+    let at = entry .args .at .now in
+    let ents = entry .args .ents .now in
+    let e = number .ensures .0 in
+    rw (← e) (breaks-self at ents (entry .args .u) (number .result) (c .before .if1 .left) (c .if2 .taken))
 
 mul-number : tie.Need-mul-number
 mul-number c = search needs
@@ -46,18 +49,26 @@ number-requires-3 c κs = search needs
 
 times-requires : tie.Need-times-requires
 times-requires c κs =
-    let entry = c .before .before .before .before .before .before .before .before .before in
-    let u = entry .args .u in
-    let C = entry .pre .0 in
-    (omega (arith, C .rise u (omega arith), c .before .before .number2 .ensures, c .number3 .ensures), omega (arith, C .within (u + 1) (omega arith), c .number3 .ensures))
+    let compared = c .before .before .before .before in
+    let entry = compared .before .before .before .before .before in
+    let at = entry .args .at .now in
+    let ents = entry .args .ents .now in
+    part-within at ents (entry .pre .0) (entry .args .u) _ _ (omega arith) (c .before .before .number2 .ensures .0) (c .number3 .ensures .0)
 
 returns-3 : tie.Need-returns-3
 returns-3 c =
-    let entry = c .before .before .before .before .before .before .before .before .before .before .before in
-    let number = c .before .before .before .before .before .before .before .before .number in
+    let compared = c .before .before .before .before .before .before in
+    let entry = compared .before .before .before .before .before in
+    let at = entry .args .at .now in
+    let ents = entry .args .ents .now in
+    let number = compared .before .before .number in
     let number2 = c .before .before .before .before .number2 in
+    let number3 = c .before .before .number3 in
+    let times = c .before .times in
     let e = number .ensures .0 in
-    rw (← e) (breaks-twice (entry .args .at .now) (entry .args .ents .now) (entry .args .u) (number .result) (c .before .before .before .before .before .before .before .if1 .left) (c .before .before .before .before .before .before .if2 .left) (omega arith) (c .before .times .result) (number2 .result) (c .before .before .number3 .result) (number2 .ensures .0) (c .before .before .number3 .ensures .0) (rw e (c .before .times .ensures)) (c .if3 .taken))
+    rw (← e)
+    (breaks-twice at ents (entry .args .u) (number .result) (compared .before .if1 .left) (compared .if2 .left) (omega arith)
+    (times .result) (number2 .result) (number3 .result) (number2 .ensures .0) (number3 .ensures .0) (rw e (times .ensures)) (c .if3 .taken))
 
 mul-number-3 : tie.Need-mul-number-3
 mul-number-3 c = search needs
@@ -85,20 +96,33 @@ cast-holds c = search needs
 
 holds-requires : tie.Need-holds-requires
 holds-requires c κs =
-    let w = c .before .before .before .before .before .before .before .before .before .before .before .before .number .result in
-    let C = c .before .before .before .before .before .before .before .before .before .before .before .before .before .before .before .pre .0 in
-    (omega (arith, C .rise w (omega arith), c .before .before .number4 .ensures, c .number5 .ensures), omega (arith, C .within (w + 1) (omega arith), c .number5 .ensures))
+    let counted = c .before .before .before .before .before in
+    let compared = counted .before .before .before .before .before in
+    let entry = compared .before .before .before .before .before in
+    let at = entry .args .at .now in
+    let ents = entry .args .ents .now in
+    let w = compared .before .before .number .result in
+    part-within at ents (entry .pre .0) w _ _ (omega arith) (c .before .before .number4 .ensures .0) (c .number5 .ensures .0)
 
 returns-4 : tie.Need-returns-4
 returns-4 c =
-    let entry = c .before .before .before .before .before .before .before .before .before .before .before .before .before .before .before .before in
-    let number = c .before .before .before .before .before .before .before .before .before .before .before .before .before .number in
-    let number2 = c .before .before .before .before .before .before .before .before .before .number2 in
-    let number3 = c .before .before .before .before .before .before .before .number3 in
-    let times = c .before .before .before .before .before .before .times in
+    let counted = c .before .before .before .before .before .before in
+    let compared = counted .before .before .before .before .before in
+    let entry = compared .before .before .before .before .before in
+    let at = entry .args .at .now in
+    let ents = entry .args .ents .now in
+    let number = compared .before .before .number in
+    let number2 = counted .before .before .before .number2 in
+    let number3 = counted .before .number3 in
+    let times = counted .times in
     let number4 = c .before .before .before .number4 in
+    let number5 = c .before .number5 in
     let e = number .ensures .0 in
-    rw (← e) (breaks-alone (entry .args .at .now) (entry .args .ents .now) (entry .args .u) (number .result) (c .before .before .before .before .before .before .before .before .before .before .before .before .if1 .left) (c .before .before .before .before .before .before .before .before .before .before .before .if2 .left) (omega arith) (times .result) (number2 .result) (number3 .result) (number2 .ensures .0) (number3 .ensures .0) (rw e (times .ensures)) (c .before .before .before .before .before .if3 .left) (number4 .result) (c .before .number5 .result) (number4 .ensures .0) (c .before .number5 .ensures .0) (c .holds .result) (c .holds .ensures))
+    rw (← e)
+    (breaks-alone at ents (entry .args .u) (number .result) (compared .before .if1 .left) (compared .if2 .left) (omega arith)
+    (times .result) (number2 .result) (number3 .result) (number2 .ensures .0) (number3 .ensures .0) (rw e (times .ensures))
+    (c .before .before .before .before .before .if3 .left)
+    (number4 .result) (number5 .result) (number4 .ensures .0) (number5 .ensures .0) (c .holds .result) (c .holds .ensures))
 
 pub breaks-spec : {M : Type 1} → statement M
 breaks-spec =

@@ -21,8 +21,9 @@ is-after-requires c κs = search needs
 
 returns : tie.Need-returns
 returns c =
-    let entry = c .before .before .before .before .before in
-    rw (around-here (entry .args .ents .now) (entry .args .b) (entry .args .e) (entry .args .i) (omega arith) (omega arith) (omega arith), ← (c .before .after .ensures)) (c .is-after .ensures)
+    let a = c .before .before .before .before .before .args in
+    let here = around-here (a .ents .now) (a .b) (a .e) (a .i) (omega arith) (omega arith) (omega arith) in
+    rw (here, ← (c .before .after .ensures)) (c .is-after .ensures)
 
 pub closes-spec : {M : Type 1} → statement M
 closes-spec =

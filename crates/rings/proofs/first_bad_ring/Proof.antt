@@ -12,7 +12,7 @@ use Rattle.words.specs.Lists.{allOf}
 use Rattle.words.proofs.First.{first-here, first-next, first-end}
 use Rattle.rings.specs.Rings.{entryRule, ringRule}
 use Rattle.rings.specs.Held.{held}
-use Rattle.rings.proofs.Held.{ring-start, ring-fault, ring-pass, ring-done}
+use Rattle.rings.proofs.Held.{part-within, ring-start, ring-fault, ring-pass, ring-done}
 use borrow.Author.Needs.{needs}
 
 abbrev Inv-loop : tie.InvT-loop
@@ -56,17 +56,25 @@ number-requires-2 c κs = search needs
 
 loop-holds : tie.Need-loop-holds Inv-loop μ-loop Inv-names μ-names
 loop-holds c =
-    let entry = c .before .before .before .before .before .before .before .before in
-    let u = c .before .before .before .before .before .names .u in
-    let C = entry .pre .0 in
-    let le : c .number2 .result ≤ c .before .before .number .result = omega (arith, C .rise u (omega arith), c .before .before .number .ensures, c .number2 .ensures) in
-    (le, ring-start (entry .args .at .now) (entry .args .ents .now) u (c .number2 .result) (c .before .before .number .result) (omega arith) (c .number2 .ensures .0) (c .before .before .number .ensures .0) le (omega (arith, C .within (u + 1) (omega arith), c .before .before .number .ensures)))
+    let turn = c .before .before .before .before .before in
+    let entry = turn .before .before .before in
+    let at = entry .args .at .now in
+    let ents = entry .args .ents .now in
+    let u = turn .names .u in
+    let b = c .number2 in
+    let e = c .before .before .number in
+    let w = part-within at ents (entry .pre .0) u (b .result) (e .result) (omega arith) (b .ensures .0) (e .ensures .0) in
+    (w .0, ring-start at ents u (b .result) (e .result) (omega arith) (b .ensures .0) (e .ensures .0) (w .0) (w .1))
 
 mul-breaks : tie.Need-mul-breaks Inv-loop μ-loop Inv-names μ-names
 mul-breaks c = search needs
 
 shared-slice-read-breaks : tie.Need-shared-slice-read-breaks Inv-loop μ-loop Inv-names μ-names
-shared-slice-read-breaks c = omega (arith, c .before .before .before .before .before .before .before .before .before .before .before .pre .0 .within (c .before .before .before .before .before .before .before .before .names .u + 1) (omega arith), c .before .before .before .before .before .number .ensures)
+shared-slice-read-breaks c =
+    let begun = c .before .before .before .before .before in
+    let turn = begun .before .before .before in
+    let C = turn .before .before .before .pre .0 in
+    omega (arith, C .within (turn .names .u + 1) (omega arith), begun .number .ensures)
 
 breaks-requires : tie.Need-breaks-requires Inv-loop μ-loop Inv-names μ-names
 breaks-requires c κs = search needs
@@ -79,12 +87,17 @@ loop-less c = search needs
 
 loop-again : tie.Need-loop-again Inv-loop μ-loop Inv-names μ-names
 loop-again c =
-    let entry = c .before .before .before .before .before .before .before .before .before .before .before .before .before in
-    let number = c .before .before .before .before .before .before .before .number in
-    let loop = c .before .before .before .before .loop in
-    let u = c .before .before .before .before .before .before .before .before .before .before .names .u in
-    let C = entry .pre .0 in
-    (search needs, ring-pass (entry .args .at .now) (entry .args .ents .now) u (number .result) (loop .i) (omega arith) (omega (arith, C .within (u + 1) (omega arith), number .ensures)) (loop .inv .1) (c .before .breaks .result) (c .before .breaks .ensures) (c .if2 .left))
+    let inner = c .before .before .before .before in
+    let turn = inner .before .before .before .before .before .before in
+    let entry = turn .before .before .before in
+    let at = entry .args .at .now in
+    let ents = entry .args .ents .now in
+    let u = turn .names .u in
+    let e = inner .before .before .before .number in
+    let v = inner .loop in
+    let in-ents : e .result ≤ length ents = omega (arith, entry .pre .0 .within (u + 1) (omega arith), e .ensures) in
+    let breaks = c .before .breaks in
+    (search needs, ring-pass at ents u (e .result) (v .i) (omega arith) in-ents (v .inv .1) (breaks .result) (breaks .ensures) (c .if2 .left))
 
 add-u : tie.Need-add-u Inv-loop μ-loop Inv-names μ-names
 add-u c = search needs
@@ -94,10 +107,15 @@ names-less c = search needs
 
 names-again : tie.Need-names-again Inv-loop μ-loop Inv-names μ-names
 names-again c =
-    let entry = c .before .before .before .before .before .before .before .before .before .before in
-    let v = c .before .before .before .before .before .before .before .names in
-    let n = length (entry .args .at .now) - 1 in
-    (search needs, v .inv .1 ∙ first-next _ (v .u) n (omega arith) (ring-done (entry .args .at .now) (entry .args .ents .now) (v .u) (c .before .before .before .before .number .result) (c .before .loop .i) (omega arith) (c .before .loop .inv .1)))
+    let turn = c .before .before .before .before .before .before .before in
+    let entry = turn .before .before .before in
+    let at = entry .args .at .now in
+    let ents = entry .args .ents .now in
+    let v = turn .names in
+    let e = c .before .before .before .before .number .result in
+    let loop = c .before .loop in
+    let done = ring-done at ents (v .u) e (loop .i) (omega arith) (loop .inv .1) in
+    (search needs, v .inv .1 ∙ first-next _ (v .u) (length at - 1) (omega arith) done)
 
 returns : tie.Need-returns Inv-loop μ-loop Inv-names μ-names
 returns c =
@@ -108,13 +126,18 @@ returns c =
 
 returns-2 : tie.Need-returns-2 Inv-loop μ-loop Inv-names μ-names
 returns-2 c =
-    let entry = c .before .before .before .before .before .before .before .before .before .before .before .before .before in
-    let number = c .before .before .before .before .before .before .before .number in
-    let loop = c .before .before .before .before .loop in
-    let v = c .before .before .before .before .before .before .before .before .before .before .names in
-    let C = entry .pre .0 in
-    let n = length (entry .args .at .now) - 1 in
-    sym (v .inv .1 ∙ first-here _ (v .u) n (omega arith) (ring-fault (entry .args .at .now) (entry .args .ents .now) (v .u) (number .result) (loop .i) (omega arith) (omega (arith, C .within (v .u + 1) (omega arith), number .ensures)) (loop .inv .1) (c .before .breaks .result) (c .before .breaks .ensures) (c .if2 .taken)))
+    let inner = c .before .before .before .before in
+    let turn = inner .before .before .before .before .before .before in
+    let entry = turn .before .before .before in
+    let at = entry .args .at .now in
+    let ents = entry .args .ents .now in
+    let v = turn .names in
+    let e = inner .before .before .before .number in
+    let i = inner .loop in
+    let in-ents : e .result ≤ length ents = omega (arith, entry .pre .0 .within (v .u + 1) (omega arith), e .ensures) in
+    let breaks = c .before .breaks in
+    let fault = ring-fault at ents (v .u) (e .result) (i .i) (omega arith) in-ents (i .inv .1) (breaks .result) (breaks .ensures) (c .if2 .taken) in
+    sym (v .inv .1 ∙ first-here _ (v .u) (length at - 1) (omega arith) fault)
 
 pub first-bad-ring-spec : {M : Type 1} → statement M
 first-bad-ring-spec =

@@ -12,11 +12,12 @@ use Rattle.words.specs.First.{first}
 use Rattle.words.proofs.First.{first-here, first-next, first-end}
 use Rattle.rings.specs.Rings.{around, allNext, follows, triangleRule}
 use Rattle.rings.specs.Held.{held}
-use Rattle.rings.proofs.Held.{triangle-start, triangle-fault, triangle-pass, triangle-done}
+use Rattle.rings.proofs.Held.{part-within, triangle-start, triangle-fault, triangle-pass, triangle-done}
 use borrow.Author.Needs.{needs}
 
 abbrev Inv-loop : tie.InvT-loop
-Inv-loop ents at n u b e i₀ i = (b ≤ i) × (i ≤ e) × (allNext (λ v w. follows (held at ents) v w u) (drop (i - b) (around (slice b e ents))) ≡ triangleRule (held at ents) u)
+Inv-loop ents at n u b e i₀ i =
+    (b ≤ i) × (i ≤ e) × (allNext (λ v w. follows (held at ents) v w u) (drop (i - b) (around (slice b e ents))) ≡ triangleRule (held at ents) u)
 
 abbrev μ-loop : tie.MeasureT-loop
 μ-loop ents at n u b e i₀ i = e - i
@@ -56,17 +57,22 @@ number-requires-2 c κs = search needs
 
 loop-holds : tie.Need-loop-holds Inv-loop μ-loop Inv-names μ-names
 loop-holds c =
-    let entry = c .before .before .before .before .before .before .before .before in
-    let u = c .before .before .before .before .before .names .u in
-    let C = entry .pre .0 in
-    let le : c .before .before .number .result ≤ c .number2 .result = omega (arith, C .rise u (omega arith), c .before .before .number .ensures, c .number2 .ensures) in
-    (search needs, le, triangle-start (entry .args .at .now) (entry .args .ents .now) u (c .before .before .number .result) (c .number2 .result) (omega arith) (c .before .before .number .ensures .0) (c .number2 .ensures .0) le (omega (arith, C .within (u + 1) (omega arith), c .number2 .ensures)))
+    let turn = c .before .before .before .before .before in
+    let entry = turn .before .before .before in
+    let at = entry .args .at .now in
+    let ents = entry .args .ents .now in
+    let u = turn .names .u in
+    let b = c .before .before .number in
+    let e = c .number2 in
+    let w = part-within at ents (entry .pre .0) u (b .result) (e .result) (omega arith) (b .ensures .0) (e .ensures .0) in
+    (search needs, w .0, triangle-start at ents u (b .result) (e .result) (omega arith) (b .ensures .0) (e .ensures .0) (w .0) (w .1))
 
 closes-requires : tie.Need-closes-requires Inv-loop μ-loop Inv-names μ-names
 closes-requires c κs =
-    let u = c .before .before .before .before .before .before .before .names .u in
-    let C = c .before .before .before .before .before .before .before .before .before .before .pre .0 in
-    (C, search needs, search needs, search needs, omega (arith, C .within (u + 1) (omega arith), c .before .before .number2 .ensures), search needs)
+    let turn = c .before .before .before .before .before .before .before in
+    let C = turn .before .before .before .pre .0 in
+    let in-ents = C .within (turn .names .u + 1) (omega arith) in
+    (C, search needs, search needs, search needs, omega (arith, in-ents, c .before .before .number2 .ensures), search needs)
 
 add-i : tie.Need-add-i Inv-loop μ-loop Inv-names μ-names
 add-i c = search needs
@@ -76,12 +82,21 @@ loop-less c = search needs
 
 loop-again : tie.Need-loop-again Inv-loop μ-loop Inv-names μ-names
 loop-again c =
-    let entry = c .before .before .before .before .before .before .before .before .before .before .before .before in
-    let number2 = c .before .before .before .before .number2 in
-    let loop = c .before .before .before .loop in
-    let u = c .before .before .before .before .before .before .before .before .before .names .u in
-    let C = entry .pre .0 in
-    (search needs, search needs, triangle-pass (entry .args .at .now) (entry .args .ents .now) u (c .before .before .before .before .before .before .number .result) (number2 .result) (loop .i) (omega arith) (omega arith) (omega (arith, C .within (u + 1) (omega arith), number2 .ensures)) (loop .inv .2) (c .before .closes .result) (c .before .closes .ensures) (not-false _ (c .if2 .left)))
+    let inner = c .before .before .before in
+    let turn = inner .before .before .before .before .before .before in
+    let entry = turn .before .before .before in
+    let at = entry .args .at .now in
+    let ents = entry .args .ents .now in
+    let u = turn .names .u in
+    let b = inner .before .before .before .number in
+    let e = inner .before .number2 in
+    let v = inner .loop in
+    let in-ents : e .result ≤ length ents = omega (arith, entry .pre .0 .within (u + 1) (omega arith), e .ensures) in
+    let closes = c .before .closes in
+    let pass =
+    triangle-pass at ents u (b .result) (e .result) (v .i) (omega arith) (omega arith) in-ents (v .inv .2)
+    (closes .result) (closes .ensures) (not-false _ (c .if2 .left)) in
+    (search needs, search needs, pass)
 
 add-u : tie.Need-add-u Inv-loop μ-loop Inv-names μ-names
 add-u c = search needs
@@ -91,13 +106,17 @@ names-less c = search needs
 
 names-again : tie.Need-names-again Inv-loop μ-loop Inv-names μ-names
 names-again c =
-    let entry = c .before .before .before .before .before .before .before .before .before .before in
-    let number = c .before .before .before .before .number in
-    let v = c .before .before .before .before .before .before .before .names in
-    let C = entry .pre .0 in
-    let n = length (entry .args .at .now) - 1 in
-    let le : number .result ≤ c .before .before .number2 .result = omega (arith, C .rise (v .u) (omega arith), number .ensures, c .before .before .number2 .ensures) in
-    (search needs, v .inv .1 ∙ first-next _ (v .u) n (omega arith) (triangle-done (entry .args .at .now) (entry .args .ents .now) (v .u) (number .result) (c .before .before .number2 .result) (c .before .loop .i) (omega arith) le (omega (arith, C .within (v .u + 1) (omega arith), c .before .before .number2 .ensures)) (c .before .loop .inv .2)))
+    let turn = c .before .before .before .before .before .before .before in
+    let entry = turn .before .before .before in
+    let at = entry .args .at .now in
+    let ents = entry .args .ents .now in
+    let v = turn .names in
+    let b = c .before .before .before .before .number in
+    let e = c .before .before .number2 in
+    let loop = c .before .loop in
+    let w = part-within at ents (entry .pre .0) (v .u) (b .result) (e .result) (omega arith) (b .ensures .0) (e .ensures .0) in
+    let done = triangle-done at ents (v .u) (b .result) (e .result) (loop .i) (omega arith) (w .0) (w .1) (loop .inv .2) in
+    (search needs, v .inv .1 ∙ first-next _ (v .u) (length at - 1) (omega arith) done)
 
 returns : tie.Need-returns Inv-loop μ-loop Inv-names μ-names
 returns c =
@@ -108,13 +127,21 @@ returns c =
 
 returns-2 : tie.Need-returns-2 Inv-loop μ-loop Inv-names μ-names
 returns-2 c =
-    let entry = c .before .before .before .before .before .before .before .before .before .before .before .before in
-    let number2 = c .before .before .before .before .number2 in
-    let loop = c .before .before .before .loop in
-    let v = c .before .before .before .before .before .before .before .before .before .names in
-    let C = entry .pre .0 in
-    let n = length (entry .args .at .now) - 1 in
-    sym (v .inv .1 ∙ first-here _ (v .u) n (omega arith) (triangle-fault (entry .args .at .now) (entry .args .ents .now) (v .u) (c .before .before .before .before .before .before .number .result) (number2 .result) (loop .i) (omega arith) (omega arith) (omega (arith, C .within (v .u + 1) (omega arith), number2 .ensures)) (loop .inv .2) (c .before .closes .result) (c .before .closes .ensures) (not-true _ (c .if2 .taken))))
+    let inner = c .before .before .before in
+    let turn = inner .before .before .before .before .before .before in
+    let entry = turn .before .before .before in
+    let at = entry .args .at .now in
+    let ents = entry .args .ents .now in
+    let v = turn .names in
+    let b = inner .before .before .before .number in
+    let e = inner .before .number2 in
+    let i = inner .loop in
+    let in-ents : e .result ≤ length ents = omega (arith, entry .pre .0 .within (v .u + 1) (omega arith), e .ensures) in
+    let closes = c .before .closes in
+    let fault =
+    triangle-fault at ents (v .u) (b .result) (e .result) (i .i) (omega arith) (omega arith) in-ents (i .inv .2)
+    (closes .result) (closes .ensures) (not-true _ (c .if2 .taken)) in
+    sym (v .inv .1 ∙ first-here _ (v .u) (length at - 1) (omega arith) fault)
 
 pub first-bad-triangle-spec : {M : Type 1} → statement M
 first-bad-triangle-spec =

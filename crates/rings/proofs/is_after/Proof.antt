@@ -2,8 +2,7 @@ use borrow.Author.Needs.{needs}
 use Rattle.rings.proofs.is_after.Statement.{statement}
 use Rattle.rings.proofs.is_after.Tie as tie
 use native.Mathlib.Omega.{arith}
-use Prim.Native.Nat.{_+_}
-use Rattle.rings.proofs.Held.{follows-none, follows-part}
+use Rattle.rings.proofs.Held.{part-within, follows-none, follows-part}
 
 number-requires : tie.Need-number-requires
 number-requires c κs = search needs
@@ -14,7 +13,9 @@ add-if1 c = search needs
 returns : tie.Need-returns
 returns c =
     let entry = c .before .before .before .before in
-    rw (← (c .before .number .ensures .0)) (follows-none (entry .args .at .now) (entry .args .ents .now) (c .before .number .result) (entry .args .a) (entry .args .c) (c .if1 .taken))
+    let a = entry .args in
+    let number = c .before .number in
+    rw (← (number .ensures .0)) (follows-none (a .at .now) (a .ents .now) (number .result) (a .a) (a .c) (c .if1 .taken))
 
 mul-number : tie.Need-mul-number
 mul-number c = search needs
@@ -39,16 +40,23 @@ number-requires-3 c κs = search needs
 
 is-next-requires : tie.Need-is-next-requires
 is-next-requires c κs =
-    let w = c .before .before .before .before .before .number .result in
-    let C = c .before .before .before .before .before .before .before .before .pre .0 in
-    (omega (arith, C .rise w (omega arith), c .before .before .number2 .ensures, c .number3 .ensures), omega (arith, C .within (w + 1) (omega arith), c .number3 .ensures))
+    let named = c .before .before .before .before .before in
+    let entry = named .before .before .before in
+    let at = entry .args .at .now in
+    let ents = entry .args .ents .now in
+    part-within at ents (entry .pre .0) (named .number .result) _ _ (omega arith) (c .before .before .number2 .ensures .0) (c .number3 .ensures .0)
 
 returns-2 : tie.Need-returns-2
 returns-2 c =
-    let entry = c .before .before .before .before .before .before .before .before .before in
-    let number = c .before .before .before .before .before .before .number in
+    let named = c .before .before .before .before .before .before in
+    let entry = named .before .before .before in
+    let a = entry .args in
+    let number = named .number in
     let number2 = c .before .before .before .number2 in
-    rw (← (number .ensures .0)) (follows-part (entry .args .at .now) (entry .args .ents .now) (number .result) (entry .args .a) (entry .args .c) (number2 .result) (c .before .number3 .result) (omega arith) (number2 .ensures .0) (c .before .number3 .ensures .0) (c .is-next .result) (c .is-next .ensures))
+    let number3 = c .before .number3 in
+    rw (← (number .ensures .0))
+    (follows-part (a .at .now) (a .ents .now) (number .result) (a .a) (a .c) (number2 .result) (number3 .result) (omega arith)
+    (number2 .ensures .0) (number3 .ensures .0) (c .is-next .result) (c .is-next .ensures))
 
 pub is-after-spec : {M : Type 1} → statement M
 is-after-spec =

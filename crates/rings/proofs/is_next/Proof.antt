@@ -27,7 +27,8 @@ returns : tie.Need-returns Inv-loop μ-loop
 returns c =
     let v = c .before .before .before .loop in
     let a = c .before .before .before .before .before .args in
-    sym (sym (v .inv .2) ∙ next-turn (a .ents .now) (a .b) (a .e) (v .i) (omega arith) (omega arith) (omega arith) (a .a) (a .c) ∙ rw (← (c .before .linked .ensures), c .if1 .taken) refl)
+    let turn = next-turn (a .ents .now) (a .b) (a .e) (v .i) (omega arith) (omega arith) (omega arith) (a .a) (a .c) in
+    sym (sym (v .inv .2) ∙ turn ∙ rw (← (c .before .linked .ensures), c .if1 .taken) refl)
 
 add-i : tie.Need-add-i Inv-loop μ-loop
 add-i c = search needs
@@ -38,11 +39,9 @@ loop-less c = search needs
 loop-again : tie.Need-loop-again Inv-loop μ-loop
 loop-again c =
     let v = c .before .before .before .loop in
-    let a = c .before .before .before .before .before .args in (
-      search needs,
-      search needs,
-      sym (next-turn (a .ents .now) (a .b) (a .e) (v .i) (omega arith) (omega arith) (omega arith) (a .a) (a .c) ∙ rw (← (c .before .linked .ensures), c .if1 .left) refl) ∙ v .inv .2,
-    )
+    let a = c .before .before .before .before .before .args in
+    let turn = next-turn (a .ents .now) (a .b) (a .e) (v .i) (omega arith) (omega arith) (omega arith) (a .a) (a .c) in
+    (search needs, search needs, sym (turn ∙ rw (← (c .before .linked .ensures), c .if1 .left) refl) ∙ v .inv .2)
 
 returns-2 : tie.Need-returns-2 Inv-loop μ-loop
 returns-2 c =

@@ -3,8 +3,7 @@ use Rattle.rings.proofs.is_outer.Statement.{statement}
 use Rattle.rings.proofs.is_outer.Tie as tie
 use native.Mathlib.Omega.{arith}
 use borrow.Author.Tests.{not-true, not-false}
-use Prim.Native.Nat.{_+_}
-use Rattle.rings.proofs.Held.{outer-none, outer-apart, outer-then}
+use Rattle.rings.proofs.Held.{part-within, outer-none, outer-apart, outer-then}
 
 number-requires : tie.Need-number-requires
 number-requires c κs = search needs
@@ -15,7 +14,9 @@ add-if1 c = search needs
 returns : tie.Need-returns
 returns c =
     let entry = c .before .before .before .before in
-    rw (← (c .before .number .ensures .0)) (outer-none (entry .args .at .now) (entry .args .ents .now) (c .before .number .result) (entry .args .v2) (entry .args .vn) (c .if1 .taken))
+    let a = entry .args in
+    let number = c .before .number in
+    rw (← (number .ensures .0)) (outer-none (a .at .now) (a .ents .now) (number .result) (a .v2) (a .vn) (c .if1 .taken))
 
 mul-number : tie.Need-mul-number
 mul-number c = search needs
@@ -40,27 +41,43 @@ number-requires-3 c κs = search needs
 
 holds-requires : tie.Need-holds-requires
 holds-requires c κs =
-    let w = c .before .before .before .before .before .number .result in
-    let C = c .before .before .before .before .before .before .before .before .pre .0 in
-    (omega (arith, C .rise w (omega arith), c .before .before .number2 .ensures, c .number3 .ensures), omega (arith, C .within (w + 1) (omega arith), c .number3 .ensures))
+    let named = c .before .before .before .before .before in
+    let entry = named .before .before .before in
+    let at = entry .args .at .now in
+    let ents = entry .args .ents .now in
+    part-within at ents (entry .pre .0) (named .number .result) _ _ (omega arith) (c .before .before .number2 .ensures .0) (c .number3 .ensures .0)
 
 returns-2 : tie.Need-returns-2
 returns-2 c =
-    let entry = c .before .before .before .before .before .before .before .before .before .before in
-    let number = c .before .before .before .before .before .before .before .number in
+    let named = c .before .before .before .before .before .before .before in
+    let entry = named .before .before .before in
+    let a = entry .args in
+    let number = named .number in
     let number2 = c .before .before .before .before .number2 in
-    rw (← (number .ensures .0)) (outer-apart (entry .args .at .now) (entry .args .ents .now) (number .result) (entry .args .v2) (entry .args .vn) (number2 .result) (c .before .before .number3 .result) (omega arith) (number2 .ensures .0) (c .before .before .number3 .ensures .0) (c .before .holds .result) (c .before .holds .ensures) (not-true _ (c .if2 .taken)))
+    let number3 = c .before .before .number3 in
+    let holds = c .before .holds in
+    rw (← (number .ensures .0))
+    (outer-apart (a .at .now) (a .ents .now) (number .result) (a .v2) (a .vn) (number2 .result) (number3 .result) (omega arith)
+    (number2 .ensures .0) (number3 .ensures .0) (holds .result) (holds .ensures) (not-true _ (c .if2 .taken)))
 
 is-after-requires : tie.Need-is-after-requires
 is-after-requires c κs = search needs
 
 returns-3 : tie.Need-returns-3
 returns-3 c =
-    let entry = c .before .before .before .before .before .before .before .before .before .before .before in
-    let number = c .before .before .before .before .before .before .before .before .number in
-    let number2 = c .before .before .before .before .before .number2 in
-    let number3 = c .before .before .before .number3 in
-    rw (← (number .ensures .0)) (outer-then (entry .args .at .now) (entry .args .ents .now) (number .result) (entry .args .v2) (entry .args .vn) (number2 .result) (number3 .result) (omega arith) (number2 .ensures .0) (number3 .ensures .0) (c .before .before .holds .result) (c .before .before .holds .ensures) (not-false _ (c .before .if2 .left)) (c .is-after .result) (rw (number .ensures .0) (c .is-after .ensures)))
+    let held = c .before .before in
+    let named = held .before .before .before .before .before .before in
+    let entry = named .before .before .before in
+    let a = entry .args in
+    let number = named .number in
+    let number2 = held .before .before .before .number2 in
+    let number3 = held .before .number3 in
+    let holds = held .holds in
+    let known = held .before .before .before .before .before .if1 .left in
+    rw (← (number .ensures .0))
+    (outer-then (a .at .now) (a .ents .now) (number .result) (a .v2) (a .vn) (number2 .result) (number3 .result) (omega (arith, known))
+    (number2 .ensures .0) (number3 .ensures .0) (holds .result) (holds .ensures) (not-false _ (c .before .if2 .left))
+    (c .is-after .result) (rw (number .ensures .0) (c .is-after .ensures)))
 
 pub is-outer-spec : {M : Type 1} → statement M
 is-outer-spec =

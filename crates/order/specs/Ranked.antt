@@ -22,13 +22,13 @@ abbrev pub Ranked : List ℕ → List ℕ → Type 0
 Ranked vs rank = RankedBelow (length vs) vs rank
 
 -- the entries from b to e are names below n
-abbrev pub Names : List ℕ → ℕ → ℕ → ℕ → Type 0
-Names ents b e n = (i : ℕ) → b ≤ i → i < e → getD ents i 0 < n
+abbrev pub NamesBelow : List ℕ → ℕ → ℕ → ℕ → Type 0
+NamesBelow ents b e n = (i : ℕ) → b ≤ i → i < e → getD ents i 0 < n
 
 -- names whose positions are known
 pub record RankedEntries (ents : List ℕ) (b e : ℕ) (vs rank : List ℕ) : Type 0 where
   pub n : ℕ
-  pub names : Names ents b e n
+  pub names : NamesBelow ents b e n
   pub ranked : RankedBelow n vs rank
 
 -- rings that keep the ring rule, and a list of posts with the positions by name

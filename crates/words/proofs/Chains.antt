@@ -1,9 +1,10 @@
--- Lists of posts: members, and neighbours.
+-- Lists whose neighbours are related, each to the next.
 use Prim.Native.Nat.{ℕ}
 use mathlib.Core.Path.{refl}
 use mathlib.Core.Logic.{inl, inr}
 use mathlib.Core.List.{List, [], _∷_, _++_}
 use Rattle.words.specs.Lists.{In}
+use Rattle.words.proofs.Lists.{in-right}
 
 -- neighbours are related
 abbrev pub Chain : (ℕ → ℕ → Type 0) → List ℕ → Type 0
@@ -27,28 +28,6 @@ module _ (E : ℕ → ℕ → Type 0) (a : ℕ) where
   chain-swap [] R R' c r = r
   chain-swap (l ∷ []) R R' c r = (c .0, r)
   chain-swap (l ∷ m ∷ L) R R' c r = (c .0, chain-swap (m ∷ L) R R' (c .1) r)
-
-pub in-append : (u : ℕ) {C : Type 0} (l m : List ℕ) → (In u l → C) → (In u m → C) → In u (l ++ m) → C
-in-append u [] m f g h = g h
-in-append u (a ∷ l) m f g (inl e) = f (inl e)
-in-append u (a ∷ l) m f g (inr h) = in-append u l m (λ i. f (inr i)) g h
-
-pub in-left : (u : ℕ) (l m : List ℕ) → In u l → In u (l ++ m)
-in-left u (a ∷ l) m (inl e) = inl e
-in-left u (a ∷ l) m (inr h) = inr (in-left u l m h)
-
-pub in-right : (u : ℕ) (l m : List ℕ) → In u m → In u (l ++ m)
-in-right u [] m h = h
-in-right u (a ∷ l) m h = inr (in-right u l m h)
-
--- the run is on the contour
-pub in-run : (u : ℕ) (L : List ℕ) (p : ℕ) (M : List ℕ) (q : ℕ) (R : List ℕ) → In u (p ∷ (M ++ q ∷ [])) → In u (L ++ p ∷ (M ++ q ∷ R))
-in-run u L p M q R (inl e) = in-right u L _ (inl e)
-in-run u L p M q R (inr h) = in-right u L _ (inr (in-append u M (q ∷ []) (in-left u M (q ∷ R)) last h))
-  where
-    last : In u (q ∷ []) → In u (M ++ q ∷ R)
-    last (inl e) = in-right u M (q ∷ R) (inl e)
-    last (inr i) = absurd i
 
 -- neighbours are members
 module _ {E F : ℕ → ℕ → Type 0} where
