@@ -24,7 +24,7 @@ impl Block {
     pub const LONGEST: usize = 16 * Block::LIMIT - 15;
 
     // What is added to an offset between two columns, so that no number below zero is stored.
-    pub const BIAS: usize = 2 * Block::LIMIT;
+    pub const BIAS: u16 = 2 * Block::LIMIT as u16;
 
     // These constants are the definitions' numbers.
     pub fn limits()

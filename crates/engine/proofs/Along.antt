@@ -6,9 +6,10 @@ use mathlib.Core.List.{List, [], _∷_, _++_, append-nil}
 use native.Mathlib.Omega.{arith}
 use lib.ListN.{length, getD, set, length-set, length-append}
 use lib.Seq.{getD-set-same, getD-set-other}
+use Rattle.block.specs.Layout.{bias}
 use Rattle.words.specs.Lists.{In, lastOf, Adj}
 use Rattle.words.proofs.Lists.{Once, adj-tail, last-append}
-use Rattle.arrays.specs.Arrays.{bias, path, walk, along, Below, covered, hung, Fits}
+use Rattle.contour.specs.Arrays.{path, walk, along, Below, covered, hung, Fits}
 
 pub below-all : (n : ℕ) (l : List ℕ) → ((a : ℕ) → In a l → a < n) → Below n l
 below-all n [] h = tt

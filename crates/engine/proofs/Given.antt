@@ -26,7 +26,7 @@ use Rattle.placing.proofs.Steps.{contours, stage-placed}
 use Rattle.order.specs.Opens.{before}
 use Rattle.order.specs.Fitted.{Fitted}
 use Rattle.engine.specs.Shows.{Shows, Drawn}
-use Rattle.arrays.specs.Sheet.{pairs}
+use Rattle.placing.specs.Sheet.{pairs}
 use Rattle.engine.specs.Recorded.{recordBy}
 use Rattle.order.proofs.Ranked.{placed-by}
 use Rattle.engine.proofs.Read.{later}

@@ -18,13 +18,13 @@ use Rattle.placing.specs.Stages.{Stage, third, placeOver, place, stage}
 use Rattle.placing.proofs.Steps.{Step, place-placed, at-each-stage}
 use Rattle.placing.proofs.Placed.{place-group, place-cover, place-x-old}
 use Rattle.drawing.proofs.Build.{Build, post as build-post, on-contour}
-use Rattle.plane.proofs.Lists.{in-groups, groups-in, sides}
-use Rattle.plane.proofs.Drawn.{Drawn}
-use Rattle.plane.proofs.Over.{before, inside, after, ends, by-0, by-1, by-2}
-use Rattle.plane.proofs.Next.{OneStep, step, stepped}
-use Rattle.plane.proofs.Start.{three, start}
-use Rattle.plane.proofs.Every.{three-differ}
-use Rattle.plane.proofs.Sheet.{in-some, in-one, group-placed, within, Recast, recast}
+use Rattle.shift.proofs.Groups.{in-groups, groups-in, sides}
+use Rattle.shift.proofs.Drawn.{Drawn}
+use Rattle.shift.proofs.Over.{before, inside, after, ends, by-0, by-1, by-2}
+use Rattle.shift.proofs.Next.{OneStep, step, stepped}
+use Rattle.shift.proofs.Start.{three, start}
+use Rattle.shift.proofs.Every.{three-differ}
+use Rattle.shift.proofs.Sheet.{in-some, in-one, group-placed, within, Recast, recast}
 
 pub record Kept (t : Stage) : Type 0 where
   pub C : List ℕ

@@ -16,7 +16,7 @@ use Rattle.order.specs.Fitted.{Fitted}
 use Rattle.order.proofs.Fitting.{fits-few}
 use Rattle.placing.specs.Stages.{Stage, stage}
 use Rattle.placing.proofs.Steps.{Step, step-at, stage-next, stage-placed}
-use Rattle.arrays.specs.Arrays.{Ready, Over}
+use Rattle.contour.specs.Arrays.{Ready, Over}
 use Rattle.engine.specs.Shows.{Shows, Holds}
 use Rattle.engine.proofs.Kept.{Kept, kept-at}
 use Rattle.engine.proofs.Shown.{ready, shown, roomy}

@@ -20,14 +20,14 @@ use Rattle.block.specs.Layout.{limit}
 use Rattle.order.proofs.Fitting.{fits-once, fits-few}
 use Rattle.placing.specs.Stages.{Stage, stage}
 use Rattle.placing.proofs.Steps.{contours, stage-placed}
-use Rattle.plane.proofs.Sheet.{within}
-use Rattle.arrays.specs.Arrays.{along, Below}
+use Rattle.shift.proofs.Sheet.{within}
+use Rattle.contour.specs.Arrays.{along, Below}
 use Rattle.order.specs.Fitted.{Fitted}
 use Rattle.engine.specs.Shows.{Shows, Holds, Drawn}
-use Rattle.arrays.specs.Columns.{until, laid, columnOf, settled, ColumnFits, Settles, Rooms, Line, Readable, columnsOf}
+use Rattle.contour.specs.Columns.{until, laid, columnOf, settled, ColumnFits, Settles, Rooms, Line, Readable, columnsOf}
 use Rattle.engine.proofs.Kept.{Kept, kept-at}
 use Rattle.engine.proofs.Along.{Apart, below-all, along-list}
-use Rattle.arrays.proofs.Paths.{along-cons}
+use Rattle.contour.proofs.Paths.{along-cons}
 
 -- ---- a list from a to its last, by right neighbours
 pub until-list : (right : List ℕ) (a z k : ℕ) (L : List ℕ) → Once (a ∷ L) → lastOf a L ≡ z → ((x y : ℕ) → Adj (a ∷ L) x y → getD right x 0 ≡ y) → length (a ∷ L) ≤ k

@@ -8,11 +8,11 @@ use lib.ListN.{length, getD, set, length-set}
 use lib.Seq.{getD-set-same, getD-set-other}
 use Rattle.words.specs.Lists.{In, Head, Adj}
 use Rattle.words.proofs.Lists.{Once, once-split, once-drop, in-left, in-right, adj-left, adj-right, last-append}
-use Rattle.block.specs.Layout.{limit}
+use Rattle.block.specs.Layout.{limit, bias}
 use Rattle.placing.specs.Stages.{Stage, place}
 use Rattle.placing.proofs.Steps.{Step}
 use Rattle.placing.proofs.Placed.{p-old, q-old}
-use Rattle.arrays.specs.Arrays.{bias, path, along, Below, covered, hung, runEnd, farAt, innerAt, newOff, newHeight, Ready, Over}
+use Rattle.contour.specs.Arrays.{path, along, Below, covered, hung, runEnd, farAt, innerAt, newOff, newHeight, Ready, Over}
 use Rattle.engine.specs.Shows.{Shows, Room}
 use Rattle.engine.proofs.Kept.{Kept, Moves, moves}
 use Rattle.engine.proofs.Stepped.{Changed, right-not, shows-next}
@@ -145,10 +145,19 @@ module _ (G : List (List ℕ)) (t : Stage) (v : ℕ) (s : Step G t v) (K : Kept 
   ready =
       let F = facts in
       record {
-        two = omega arith;
-        p-ys = omega (arith, names p hp, W .of-ys);
+        spans =
+            record {
+              two = omega arith;
+              p-ys = omega (arith, names p hp, W .of-ys);
+              q-ys = rw end-is (omega (arith, names q hq, W .of-ys));
+              run-right = rw (path-but-last right p M q m em rights)
+                  (below-all (length right) (p ∷ M) (λ a i. omega (arith, names a (on-run a (in-left a (p ∷ M) (q ∷ []) i)), W .of-right)));
+              run-off = rw (path-but-first right p M q m em rights)
+                  (below-all (length off) (M ++ q ∷ []) (λ a i. omega (arith, names a (on-run a (inr i)), W .of-off)));
+              far-fits = omega (arith, F, yp-is, yq-is);
+              low = omega (arith, F .low, yp-is, yq-is);
+            };
         p-right = omega (arith, names p hp, W .of-right);
-        q-ys = rw end-is (omega (arith, names q hq, W .of-ys));
         q-off = rw end-is (omega (arith, names q hq, W .of-off));
         q-left = rw end-is (omega (arith, names q hq, W .of-left));
         v-ys = omega (arith, W .of-ys);
@@ -156,13 +165,9 @@ module _ (G : List (List ℕ)) (t : Stage) (v : ℕ) (s : Step G t v) (K : Kept 
         v-cover = omega (arith, W .of-cover);
         v-left = omega (arith, W .of-left);
         v-right = omega (arith, W .of-right);
-        run-right = rw (path-but-last right p M q m em rights) (below-all (length right) (p ∷ M) (λ a i. omega (arith, names a (on-run a (in-left a (p ∷ M) (q ∷ []) i)), W .of-right)));
-        run-off = rw (path-but-first right p M q m em rights) (below-all (length off) (M ++ q ∷ []) (λ a i. omega (arith, names a (on-run a (inr i)), W .of-off)));
         in-right = inner-below (length right) (W .of-right);
         in-off = inner-below (length off) (W .of-off);
         in-cover = inner-below (length cover) (W .of-cover);
-        far-fits = omega (arith, F, yp-is, yq-is);
-        low = omega (arith, F .low, yp-is, yq-is);
         off-fits = omega (arith, F .most, F .far-small);
         off-far = F .most;
         fits = rw inner-is (fits-list (t .x) (t .x p) (newOff ys off right p m) (2 * limit) (omega arith) off p 1 M once-in apart-in (omega arith) (λ a i. omega (arith, N .within a (on-in a i))));

@@ -11,8 +11,8 @@ use Rattle.words.specs.Positions.{post}
 use Rattle.words.proofs.Lists.{Once, once-split, once-drop, in-dec, in-left, in-right, in-cases, adj-in-left, adj-in-right, adj-left, adj-right, adj-cases, adj-init, adj-tail, last-append, last-in}
 use Rattle.placing.specs.Stages.{Stage, place}
 use Rattle.placing.proofs.Steps.{Step, place-placed}
-use Rattle.plane.proofs.Lists.{sides}
-use Rattle.arrays.specs.Arrays.{bias}
+use Rattle.shift.proofs.Groups.{sides}
+use Rattle.block.specs.Layout.{bias}
 use Rattle.engine.specs.Shows.{Shows}
 use Rattle.engine.proofs.Kept.{Kept, Moves, moves, old-placed, still-on, was-on, cover-in, cover-off, first-kept, first-on}
 

@@ -14,7 +14,7 @@ use Rattle.placing.specs.Stages.{Stage, third}
 use Rattle.placing.proofs.Steps.{stage-third}
 use Rattle.order.specs.Fitted.{Fitted}
 use Rattle.engine.specs.Shows.{Shows, Room, Corners, Holds}
-use Rattle.plane.proofs.Every.{three-differ}
+use Rattle.shift.proofs.Every.{three-differ}
 
 module _ (v1 v2 v3 : ℕ) (d12 : v1 ≢ v2) (d13 : v1 ≢ v3) (d23 : v2 ≢ v3) where
   -- three stores

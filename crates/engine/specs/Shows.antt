@@ -8,7 +8,7 @@ use Rattle.words.specs.Lists.{In, Adj}
 use Rattle.words.specs.Positions.{post}
 use Rattle.rings.specs.Held.{held}
 use Rattle.placing.specs.Stages.{Stage, stage}
-use Rattle.arrays.specs.Arrays.{bias}
+use Rattle.block.specs.Layout.{bias}
 
 pub record Shows (t : Stage) (ys off cover left right : List ℕ) : Type 0 where
   pub height : (u : ℕ) → In u (t .placed) → getD ys u 0 ≡ t .y u

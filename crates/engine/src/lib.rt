@@ -10,7 +10,7 @@ ghost use Rattle.order.specs.Fitted.{Fitted};
 ghost use Rattle.rings.specs.Held.{held};
 ghost use Rattle.placing.specs.Stages.{third, stage};
 ghost use Rattle.placing.specs.Records.{recordOf, entriesOf};
-ghost use Rattle.arrays.specs.Columns.{Readable, columnsOf};
+ghost use Rattle.contour.specs.Columns.{Readable, columnsOf};
 ghost use Rattle.engine.specs.Recorded.{recordBy};
 ghost use Rattle.engine.specs.Shows.{Shows, Room, Corners, Holds, Drawn};
 
@@ -31,7 +31,7 @@ pub fn place_next(
     ensures { λ r. ⌜ Holds (now (at .entry)) (now (ents .entry)) (now (vs .entry)) (k + 1) (now (ys .exit)) (now (off .exit)) (now (cover .exit)) (now (left .exit)) (now (right .exit)) ⌝ }
 {
     let run = order::next_run(at, ents, vs, rank, k);
-    arrays::place_over(vs[k], run.first, run.many, ys, off, cover, left, right);
+    contour::place_over(vs[k], run.first, run.many, ys, off, cover, left, right);
 }
 
 // Stage 3: v1 at (0,0), v3 at (1,1), v2 at (2,0).
@@ -48,11 +48,11 @@ fn start(
     requires { ⌜ Corners v1 v2 v3 (now ys) (now off) (now cover) (now left) (now right) ⌝ }
     ensures { λ r. ⌜ Shows (third v1 v2 v3) (now (ys .exit)) (now (off .exit)) (now (cover .exit)) (now (left .exit)) (now (right .exit)) ⌝ }
 {
-    arrays::three(ys, v1, 0, v2, 0, v3, 1);
-    arrays::three(off, v1, 0, v2, 1, v3, 1);
-    arrays::three(cover, v1, v1, v2, v2, v3, v3);
-    arrays::three(left, v1, v1, v2, v3, v3, v1);
-    arrays::three(right, v1, v3, v2, v2, v3, v2);
+    contour::put_corners(ys, v1, 0, v2, 0, v3, 1);
+    contour::put_corners(off, v1, 0, v2, 1, v3, 1);
+    contour::put_corners(cover, v1, v1, v2, v2, v3, v3);
+    contour::put_corners(left, v1, v1, v2, v3, v3, v1);
+    contour::put_corners(right, v1, v3, v2, v2, v3, v2);
 }
 
 // Stage k: stage 3, and one post after the other.
@@ -84,8 +84,8 @@ pub fn columns(vs: &[u16], off: &[u16], cover: &[u16], right: &[u16], xs: &mut [
     requires { ⌜ Readable (now vs) (now off) (now cover) (now right) (now xs) k ⌝ }
     ensures { λ r. ⌜ now (xs .exit) ≡ columnsOf (now (vs .entry)) (now (off .entry)) (now (cover .entry)) (now (right .entry)) (now (xs .entry)) k ⌝ }
 {
-    arrays::spread(right, off, xs, vs[0], vs[1], vs.len());
-    arrays::settle(vs, off, cover, xs, k);
+    contour::spread(right, off, xs, vs[0], vs[1], vs.len());
+    contour::settle(vs, off, cover, xs, k);
 }
 
 // Stage k with the columns of its posts.
@@ -128,7 +128,7 @@ pub fn sheet_at(
     ensures { λ r. ⌜ now (buffer .exit) ≡ entriesOf (stage (held (now (at .entry)) (now (ents .entry))) (take k (now (vs .entry)))) ++ drop (2 * k) (now (buffer .entry)) ⌝ }
 {
     draw(at, ents, vs, rank, k, ys, off, cover, left, right, xs);
-    arrays::write_sheet(vs, k, xs, ys, buffer);
+    placing::write_sheet(vs, k, xs, ys, buffer);
 }
 
 // The record of post u, from the arrays of stage k.

@@ -1,3 +1,4 @@
 pub mod OnBoards
 pub mod Steps
 pub mod Placed
+pub mod Writing

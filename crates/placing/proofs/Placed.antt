@@ -3,19 +3,19 @@ use mathlib.Core.Path.{_≡_, refl, ap, _∙_, subst}
 use mathlib.Core.Logic.{inl, inr}
 use mathlib.Core.Bool.{cond}
 use mathlib.Core.List.{List, [], _∷_, flatMap}
-use Prim.Native.Nat.{ℕ, _+_, _-_, _/_}
+use Prim.Native.Nat.{ℕ, _+_}
 use lib.Dec.{eqb}
 use Rattle.words.specs.Lists.{In, mem, lastOf}
 use Rattle.words.specs.Positions.{post}
 use Rattle.words.proofs.Lists.{Once, in-right, last-append}
-use Rattle.words.proofs.Tests.{eqb-same, eqb-other}
+use Rattle.words.proofs.Tests.{eqb-other}
 use Rattle.order.specs.Order.{run}
 use Rattle.placing.specs.Stages.{Stage, onFrom, inner, placeOver, place}
 use Rattle.placing.proofs.Steps.{Step, on-from-run, inner-run}
 
--- how far a post moves, with M covered and R from w_q on: 1 in the groups of M, 2 in those of R
-abbrev pub shift : Stage → List ℕ → List ℕ → ℕ → ℕ
-shift t M R u = cond (mem (flatMap (t .group) M) u) 1 0 + cond (mem (flatMap (t .group) R) u) 2 0
+-- how far u moves, when the posts of `ones` move by 1 and those of `twos` by 2
+abbrev pub movedBy : List ℕ → List ℕ → ℕ → ℕ
+movedBy ones twos u = cond (mem ones u) 1 0 + cond (mem twos u) 2 0
 
 module _ (G : List (List ℕ)) (t : Stage) (v : ℕ) (s : Step G t v) where
   first-is : post (run G (t .placed) v) 1 ≡ s .p
@@ -39,7 +39,7 @@ module _ (G : List (List ℕ)) (t : Stage) (v : ℕ) (s : Step G t v) where
   place-cover u = ap (λ (l : List ℕ). cond (mem l u) v (t .cover u)) inner-is
 
   -- where the posts stand now
-  pub place-x-old : (u : ℕ) → ¬ (u ≡ v) → place G t v .x u ≡ t .x u + shift t (s .M) (s .q ∷ s .Y) u
+  pub place-x-old : (u : ℕ) → ¬ (u ≡ v) → place G t v .x u ≡ t .x u + movedBy (flatMap (t .group) (s .M)) (flatMap (t .group) (s .q ∷ s .Y)) u
   unfolding place placeOver
   place-x-old u n = rw (eqb-other u v n, inner-is, right-is)
 

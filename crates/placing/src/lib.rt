@@ -1,4 +1,10 @@
-// Placing the posts, stage by stage. specs/ has the definitions.
+// What is told of a stage: a post's record, and the sheet's entries. specs/ has the stages themselves.
+ghost use mathlib.Core.Path.{_≡_};
+ghost use mathlib.Core.List.{_++_};
+ghost use Prim.Native.Nat.{ℕ, _*_, _≤_, _<_};
+ghost use lib.ListN.{length, getD, take, drop};
+ghost use Rattle.block.specs.Layout.{limit};
+ghost use Rattle.placing.specs.Sheet.{pairs};
 
 // How a post stands at a stage: not placed yet; on the contour, between its left and its right neighbour there; or covered, by the post whose
 // placing covered it. Posts are told by name.
@@ -13,4 +19,18 @@ pub struct Record {
     pub x: u16,
     pub y: u16,
     pub standing: Standing,
+}
+
+// The first 2k entries of the buffer become x then y of v1, then of v2, up to vk. Entries beyond stay as they were.
+pub fn write_sheet(vs: &[u16], k: usize, xs: &[u16], ys: &[u16], buffer: &mut [u16])
+    requires { ⌜ (k ≤ length (now vs)) × (k ≤ limit) × (2 * k ≤ length (now buffer)) × ((i : ℕ) → i < k → (getD (now vs) i 0 < length (now xs)) × (getD (now vs) i 0 < length (now ys))) ⌝ }
+    ensures { λ r. ⌜ now (buffer .exit) ≡ pairs (now (xs .entry)) (now (ys .entry)) (take k (now (vs .entry))) ++ drop (2 * k) (now (buffer .entry)) ⌝ }
+{
+    let mut i = 0;
+    while i < k {
+        let u = words::number(vs[i]);
+        buffer[2 * i] = xs[u];
+        buffer[2 * i + 1] = ys[u];
+        i += 1;
+    }
 }

@@ -5,7 +5,7 @@ use mathlib.Core.List.{List}
 use native.Mathlib.Omega.{arith}
 use Rattle.block.specs.Block.{posts, order, lists}
 use Rattle.drawing.specs.Areas.{PositiveArea}
-use Rattle.plane.proofs.Mirror.{no-mirror-at}
+use Rattle.shift.proofs.Mirror.{no-mirror-at}
 use Rattle.lamp.specs.Given.{accepted, checkReply}
 use Rattle.lamp.proofs.Accepts.{lists-count, none-passes}
 use Rattle.unit.specs.Replies.{stageAt, sheetReply}

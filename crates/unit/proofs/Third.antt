@@ -8,7 +8,7 @@ use Rattle.block.specs.Block.{posts, order, lists}
 use Rattle.rings.specs.Plane.{Wire}
 use Rattle.order.proofs.Sound.{Passes}
 use Rattle.drawing.specs.Meeting.{OnGrid, NoneMeet}
-use Rattle.plane.proofs.Every.{grid-at, no-short-at, moves-at}
+use Rattle.shift.proofs.Every.{grid-at, no-short-at, moves-at}
 use Rattle.lamp.specs.Given.{accepted}
 use Rattle.unit.specs.Replies.{stageAt}
 use Rattle.unit.specs.Demands.{Services, places, Placed, Moves, Demand3}

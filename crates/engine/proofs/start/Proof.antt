@@ -3,20 +3,20 @@ use Rattle.engine.proofs.start.Statement.{statement}
 use Rattle.engine.proofs.start.Tie as tie
 use Rattle.engine.proofs.Third.{start-shows}
 
-three-requires : tie.Need-three-requires
-three-requires c κs = search needs
+put-corners-requires : tie.Need-put-corners-requires
+put-corners-requires c κs = search needs
 
-three-requires-2 : tie.Need-three-requires-2
-three-requires-2 c κs = search needs
+put-corners-requires-2 : tie.Need-put-corners-requires-2
+put-corners-requires-2 c κs = search needs
 
-three-requires-3 : tie.Need-three-requires-3
-three-requires-3 c κs = search needs
+put-corners-requires-3 : tie.Need-put-corners-requires-3
+put-corners-requires-3 c κs = search needs
 
-three-requires-4 : tie.Need-three-requires-4
-three-requires-4 c κs = search needs
+put-corners-requires-4 : tie.Need-put-corners-requires-4
+put-corners-requires-4 c κs = search needs
 
-three-requires-5 : tie.Need-three-requires-5
-three-requires-5 c κs = search needs
+put-corners-requires-5 : tie.Need-put-corners-requires-5
+put-corners-requires-5 c κs = search needs
 
 same-length : tie.Need-same-length
 same-length c = search needs
@@ -34,17 +34,17 @@ same-length-5 : tie.Need-same-length-5
 same-length-5 c = search needs
 
 returns : tie.Need-returns
-returns c = start-shows _ _ _ _ _ _ _ _ _ _ _ _ _ (c .before .before .before .before .before .before .before .before .before .before .before .before .before .before .before .before .before .before .before .before .before .before .before .before .before .pre) (c .before .before .before .before .before .before .before .before .before .before .before .before .before .before .before .before .before .before .three .ensures) (c .before .before .before .before .before .before .before .before .before .before .before .before .before .before .three2 .ensures) (c .before .before .before .before .before .before .before .before .before .before .three3 .ensures) (c .before .before .before .before .before .before .three4 .ensures) (c .before .before .three5 .ensures)
+returns c = start-shows _ _ _ _ _ _ _ _ _ _ _ _ _ (c .before .before .before .before .before .before .before .before .before .before .before .before .before .before .before .before .before .before .before .before .before .before .before .before .before .pre) (c .before .before .before .before .before .before .before .before .before .before .before .before .before .before .before .before .before .before .put-corners .ensures) (c .before .before .before .before .before .before .before .before .before .before .before .before .before .before .put-corners2 .ensures) (c .before .before .before .before .before .before .before .before .before .before .put-corners3 .ensures) (c .before .before .before .before .before .before .put-corners4 .ensures) (c .before .before .put-corners5 .ensures)
 
 pub start-spec : {M : Type 1} → statement M
 start-spec =
     tie.close
     (tie.spec
-    three-requires
-    three-requires-2
-    three-requires-3
-    three-requires-4
-    three-requires-5
+    put-corners-requires
+    put-corners-requires-2
+    put-corners-requires-3
+    put-corners-requires-4
+    put-corners-requires-5
     same-length
     same-length-2
     same-length-3

@@ -1,5 +1,0 @@
-pub mod Paths
-pub mod Reading
-pub mod Writing
-pub mod Signed
-pub mod Made

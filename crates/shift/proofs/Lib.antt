@@ -1,0 +1,15 @@
+pub mod Groups
+pub mod Turns
+pub mod Shift
+pub mod Group
+pub mod Step
+pub mod Drawn
+pub mod Over
+pub mod Next
+pub mod Start
+pub mod Tri
+pub mod Sheet
+pub mod Tied
+pub mod Every
+pub mod Mirror
+pub mod OnBoards
