@@ -55,8 +55,8 @@ module _ (vs rank : List ℕ) (room : length vs ≤ length rank) (good : (k : �
           rw is (getD-set-other rank (post vs k) (post vs j) k 0 (λ e. says .1 (earlier-in vs k (post vs k) (omega arith) (j, h, omega arith, e))))
           ∙ r j h (omega arith)
 
-  pub ranked : RankedTo vs rank (length vs + 1) → Ranked vs rank
-  ranked r = record { room = room; name = named; position = λ k h i. r k h (omega arith) }
+  pub all-ranked : RankedTo vs rank (length vs + 1) → Ranked vs rank
+  all-ranked r = record { room = room; name = named; position = λ k h i. r k h (omega arith) }
     where
       named : (a : ℕ) → a < length vs → (1 ≤ getD rank a 0) × (getD rank a 0 ≤ length vs) × (post vs (getD rank a 0) ≡ a)
       named a h =

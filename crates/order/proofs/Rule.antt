@@ -44,11 +44,11 @@ module _ (at ents : List ℕ) (v b e n : ℕ) (h : v < n) (size : length at ≡ 
     rule-few few = rw (two-is, lt-leb 2 c few) refl
 
     module _ (enough : 2 ≤ c) (s : ℕ) (es : s ≡ starts P (around (slice b e ents))) where
-      filled : 0 < length (ring (held at ents) v)
-      filled = rw is (omega (arith, count-length (mem P) (slice b e ents)))
+      ring-filled : 0 < length (ring (held at ents) v)
+      ring-filled = rw is (omega (arith, count-length (mem P) (slice b e ents)))
 
       one-yes : s ≤ 1 → oneRun (held at ents) P v ≡ true
-      one-yes few = starts-one-run (held at ents) P v filled (rw (is, ← es) few)
+      one-yes few = starts-one-run (held at ents) P v ring-filled (rw (is, ← es) few)
 
       one-no : 1 < s → oneRun (held at ents) P v ≡ false
       one-no more =
