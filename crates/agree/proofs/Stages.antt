@@ -20,7 +20,7 @@ use Rattle.placing.specs.Stages.{Stage, third, place, stage}
 use Rattle.placing.proofs.Steps.{Step, stage-third, stage-next, stage-placed, contours, step-at}
 use Rattle.growth.specs.Co.{ContourList}
 use Rattle.growth.proofs.Named.{post-in}
-use Rattle.growth.proofs.Contours.{last-run, contour-written, last-written}
+use Rattle.growth.proofs.Contours.{last-contour, contour-written, last-written}
 
 module _ (G : List (List ℕ)) (vs : List ℕ) (T : Passes G vs) where
   n : length vs ≡ length G
@@ -51,7 +51,7 @@ module _ (G : List (List ℕ)) (vs : List ℕ) (T : Passes G vs) where
       let e2 : w2 ≡ v2 = ap (λ (r : List ℕ). post r 2) e ∙ getD-take k vs 1 0 (omega arith) in
       let C = subst (Contour (After G) w1 w2 (t .placed)) (s .before) (s .old) in
       s .after
-      ∙ last-run (After G) w1 w2 vn (t .placed) (s .p) (s .M) (s .q) (s .X) (s .Y) (s .the-run) C (s .no-turn)
+      ∙ last-contour (After G) w1 w2 vn (t .placed) (s .p) (s .M) (s .q) (s .X) (s .Y) (s .the-run) C (s .no-turn)
       (rw (e1, e2) back) (rw (e1, e) (placed 1 (omega arith) (omega arith))) (rw (e2, e) (placed 2 (omega arith) (omega arith)))
       ∙ (rw (e1, e2) refl)
     where

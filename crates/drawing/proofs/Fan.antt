@@ -5,7 +5,7 @@ use native.Mathlib.Nat.{mul-le-mul-left}
 use native.Mathlib.Omega.{arith}
 use Rattle.drawing.specs.Meeting.{Places, Point, At}
 use Rattle.drawing.specs.Areas.{PositiveArea}
-use Rattle.drawing.proofs.Numbers.{times, turned, apart}
+use Rattle.drawing.proofs.Numbers.{times, fan-under, fan-only}
 
 -- the point lies on the segment from a to b, given over the sum of its weights
 pub record Along (s : Places) (a b : ℕ) (P : Point) : Type 0 where
@@ -38,10 +38,10 @@ module _ (xa ya xb yb xc yc X Y d β γ μ : ℕ) (turn : xb * ya + xc * yb + xa
     low-a = omega (arith, times Y eb, times (ya * d) eb, times ya eX, times yb eX)
 
     fan-a : 0 < β → xc * Y + X * ya + xa * (yc * d) ≤ xa * Y + X * yc + xc * (ya * d)
-    fan-a pos = omega (arith, turned β γ μ ya yb yc Y d pos turn-a low-a, times Y ec, times (ya * d) ec, times ya eX, times yc eX)
+    fan-a pos = omega (arith, fan-under β γ μ ya yb yc Y d pos turn-a low-a, times Y ec, times (ya * d) ec, times ya eX, times yc eX)
 
     only-a : xa * Y + X * yc + xc * (ya * d) ≤ xc * Y + X * ya + xa * (yc * d) → μ ≡ 0
-    only-a h = apart β γ μ ya yb yc Y d turn-a low-a (omega (arith, times Y ec, times (ya * d) ec, times ya eX, times yc eX))
+    only-a h = fan-only β γ μ ya yb yc Y d turn-a low-a (omega (arith, times Y ec, times (ya * d) ec, times ya eX, times yc eX))
 
   module _ (eb : xc ≡ xb + β) (ea : xc ≡ xa + γ) (eX : xc * d ≡ X + μ) (low : xc * Y + X * yb + xb * (yc * d) ≤ xb * Y + X * yc + xc * (yb * d)) where
     turn-c : β * yc + γ * yb < β * ya + γ * yc
@@ -51,10 +51,10 @@ module _ (xa ya xb yb xc yc X Y d β γ μ : ℕ) (turn : xb * ya + xc * yb + xa
     low-c = omega (arith, times Y eb, times (yc * d) eb, times yc eX, times yb eX)
 
     fan-c : 0 < β → xc * Y + X * ya + xa * (yc * d) ≤ xa * Y + X * yc + xc * (ya * d)
-    fan-c pos = omega (arith, turned β γ μ yc yb ya Y d pos turn-c low-c, times Y ea, times (yc * d) ea, times yc eX, times ya eX)
+    fan-c pos = omega (arith, fan-under β γ μ yc yb ya Y d pos turn-c low-c, times Y ea, times (yc * d) ea, times yc eX, times ya eX)
 
     only-c : xa * Y + X * yc + xc * (ya * d) ≤ xc * Y + X * ya + xa * (yc * d) → μ ≡ 0
-    only-c h = apart β γ μ yc yb ya Y d turn-c low-c (omega (arith, times Y ea, times (yc * d) ea, times yc eX, times ya eX))
+    only-c h = fan-only β γ μ yc yb ya Y d turn-c low-c (omega (arith, times Y ea, times (yc * d) ea, times yc eX, times ya eX))
 
 -- ---- points on a wire
 module _ (s : Places) {a b : ℕ} {P : Point} where

@@ -89,8 +89,8 @@ pub record K (s : Places) (E : ℕ → ℕ → Type 0) (C : List ℕ) : Type 0 w
 pub data Ground (a b : ℕ) : ℕ → ℕ → Type 0 where
   ground : Ground a b a b
 
-pub two-posts : (s : Places) (a b : ℕ) → s .x a < s .x b → K s (Ground a b) (a ∷ b ∷ [])
-two-posts s a b h = record { wires = record { right = right'; roof = roof'; meet = meet' }; chain = (ground, tt) }
+pub on-ground : (s : Places) (a b : ℕ) → s .x a < s .x b → K s (Ground a b) (a ∷ b ∷ [])
+on-ground s a b h = record { wires = record { right = right'; roof = roof'; meet = meet' }; chain = (ground, tt) }
   where
     right' : {u w : ℕ} → Ground a b u w → s .x u < s .x w
     right' ground = h

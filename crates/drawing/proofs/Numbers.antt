@@ -22,15 +22,15 @@ times k e = ap (λ (n : ℕ). n * k) e
 
 -- The fan, with a at the origin's column: b, c and the point are β, γ and μ to the side of it. What is not above the line of a and b is not
 -- above the line of a and c, if c turns up from b;
-pub turned : (β γ μ ya yb yc Y d : ℕ) → 0 < β → β * ya + γ * yb < β * yc + γ * ya → β * Y + μ * ya ≤ β * (ya * d) + μ * yb
+pub fan-under : (β γ μ ya yb yc Y d : ℕ) → 0 < β → β * ya + γ * yb < β * yc + γ * ya → β * Y + μ * ya ≤ β * (ya * d) + μ * yb
     → γ * Y + μ * ya ≤ γ * (ya * d) + μ * yc
-turned β γ μ ya yb yc Y d pos t l =
+fan-under β γ μ ya yb yc Y d pos t l =
     let t' : β * ya + γ * yb ≤ β * yc + γ * ya = omega arith in
     le-of-mul-le-mul-left {k = β} (omega (arith, mul-le-mul-left μ t', mul-le-mul-left γ l)) pos
 
 -- and it is on that line only at a
-pub apart : (β γ μ ya yb yc Y d : ℕ) → β * ya + γ * yb < β * yc + γ * ya → β * Y + μ * ya ≤ β * (ya * d) + μ * yb
+pub fan-only : (β γ μ ya yb yc Y d : ℕ) → β * ya + γ * yb < β * yc + γ * ya → β * Y + μ * ya ≤ β * (ya * d) + μ * yb
     → γ * (ya * d) + μ * yc ≤ γ * Y + μ * ya → μ ≡ 0
-apart β γ zero ya yb yc Y d t l h = refl
-apart β γ (suc μ) ya yb yc Y d t l h =
+fan-only β γ zero ya yb yc Y d t l h = refl
+fan-only β γ (suc μ) ya yb yc Y d t l h =
     absurd (omega (arith, mul-le-mul-left (suc μ) t, mul-le-mul-left γ l, mul-le-mul-left β h))

@@ -14,7 +14,7 @@ use Rattle.drawing.proofs.Fan.{Along, at-left, at-right}
 use Rattle.words.proofs.Lists.{in-run}
 use Rattle.words.proofs.Chains.{chain-in}
 use Rattle.drawing.proofs.Points.{over-both}
-use Rattle.drawing.proofs.Keep.{K, Common, same, shared, EndOf, begins, ends, Ground, ground, two-posts, through}
+use Rattle.drawing.proofs.Keep.{K, Common, same, shared, EndOf, begins, ends, Ground, ground, on-ground, through}
 use Rattle.drawing.proofs.Insert.{Clear, Inserted, insert}
 use Rattle.drawing.proofs.Build.{Build, base, post, Post, Built, Before, Good, on-contour, top}
 
@@ -81,7 +81,7 @@ module _ (s : Places) (N : ℕ) (some : 0 < N) where
   traced (base a b) g tall =
       record {
         E = Ground a b;
-        k = two-posts sheared a b (before (tall a (inl refl)) g);
+        k = on-ground sheared a b (before (tall a (inl refl)) g);
         wire = λ u w h. inl (rw (h .0, h .1) ground);
         placed = λ u. elim [ inl e ↦ rw e (begins ground) | inr e ↦ rw e (ends ground) ];
       }

@@ -25,7 +25,7 @@ use Rattle.placing.specs.declared.Standing.the-variants.{Waiting, OnContour, Co
 use Rattle.placing.proofs.Steps.{contours, stage-placed}
 use Rattle.order.specs.Opens.{before}
 use Rattle.order.specs.Fitted.{Fitted}
-use Rattle.engine.specs.Shows.{Shows, Drawn}
+use Rattle.engine.specs.Shows.{Shows, Columned}
 use Rattle.placing.specs.Sheet.{pairs}
 use Rattle.engine.specs.Recorded.{recordBy}
 use Rattle.order.proofs.Ranked.{placed-by}
@@ -90,7 +90,7 @@ pub stage-within : (at ents vs rank : List ℕ) → Fitted at ents vs rank → (
 stage-within at ents vs rank A k i = omega (arith, fits-few (held at ents) (A .vn) vs (A .plane) (A .fits), A .most)
 
 module _ (at ents vs rank : List ℕ) (A : Fitted at ents vs rank) (k : ℕ) (h : 3 ≤ k) (i : k ≤ length vs)
-    (ys off cover left right xs : List ℕ) (D : Drawn at ents vs k ys off cover left right xs) where
+    (ys off cover left right xs : List ℕ) (D : Columned at ents vs k ys off cover left right xs) where
   abbrev G : List (List ℕ)
   G = held at ents
 

@@ -37,7 +37,7 @@ pub record Kept (t : Stage) : Type 0 where
       → (j : ℕ) × (i < j) × (j < length (t .placed)) × (getD (t .placed) j 0 ≡ t .cover (getD (t .placed) i 0))
 
 -- what one step does to the columns: up to w_p none moves, inside the run by 1, from w_q on by 2; a covered post as the one that covers it
-pub record Moves (G : List (List ℕ)) (t : Stage) (v : ℕ) (s : Step G t v) : Type 0 where
+pub record StepMoves (G : List (List ℕ)) (t : Stage) (v : ℕ) (s : Step G t v) : Type 0 where
   pub stays : (a : ℕ) → In a (s .X ++ s .p ∷ []) → place G t v .x a ≡ t .x a
   pub by-one : (a : ℕ) → In a (s .M) → place G t v .x a ≡ t .x a + 1
   pub by-two : (a : ℕ) → In a (s .q ∷ s .Y) → place G t v .x a ≡ t .x a + 2
@@ -119,7 +119,7 @@ module _ (G : List (List ℕ)) (t : Stage) (v : ℕ) (s : Step G t v) (K : Kept 
       go (yes a) (yes b) = omega (arith, moved-1 u h a b, moved-1 (t .cover u) hw (omega (arith, e)) (omega (arith, e)))
       go (yes a) (no b) = omega (arith, moved-2 u h (omega arith), moved-2 (t .cover u) hw (omega (arith, e)))
 
-  pub moves : Moves G t v s
+  pub moves : StepMoves G t v s
   moves =
       let pq = ends t (s .X) (s .p) (s .M) (s .q) (s .Y) D in
       record { stays = stays; by-one = by-one; by-two = by-two; alike = alike; cover-placed = cover-placed; one = one-step; up = pq .sum; down = pq .dif; within = within D }

@@ -23,7 +23,7 @@ use Rattle.placing.proofs.Steps.{contours, stage-placed}
 use Rattle.shift.proofs.Sheet.{within}
 use Rattle.contour.specs.Arrays.{along, Below}
 use Rattle.order.specs.Fitted.{Fitted}
-use Rattle.engine.specs.Shows.{Shows, Holds, Drawn}
+use Rattle.engine.specs.Shows.{Shows, Holds, Columned}
 use Rattle.contour.specs.Columns.{until, laid, columnOf, settled, ColumnFits, Settles, Rooms, Line, Readable, columnsOf}
 use Rattle.engine.proofs.Kept.{Kept, kept-at}
 use Rattle.engine.proofs.Along.{Apart, below-all, along-list}
@@ -278,5 +278,5 @@ module _ (at ents vs rank : List ℕ) (A : Fitted at ents vs rank) (k : ℕ) (h 
       (read-all (laid xs off 0 (until right (getD vs 0 0) (getD vs 1 0) (length vs))) k (omega arith) start .1 (w .0) (w .1))
 
   -- so they are drawn
-  pub drawn : (zs : List ℕ) → zs ≡ columnsOf vs off cover right xs k → length zs ≡ length xs → Drawn at ents vs k ys off cover left right zs
+  pub drawn : (zs : List ℕ) → zs ≡ columnsOf vs off cover right xs k → length zs ≡ length xs → Columned at ents vs k ys off cover left right zs
   drawn zs e n = record { holds = H; column = rw e columns-are; roomy = omega (arith, room) }

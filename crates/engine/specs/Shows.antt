@@ -49,7 +49,7 @@ pub record Holds (at ents vs : List ℕ) (k : ℕ) (ys off cover left right : Li
   pub room : Room (length (held at ents)) ys off cover left right
 
 -- and the columns of its posts
-pub record Drawn (at ents vs : List ℕ) (k : ℕ) (ys off cover left right xs : List ℕ) : Type 0 where
+pub record Columned (at ents vs : List ℕ) (k : ℕ) (ys off cover left right xs : List ℕ) : Type 0 where
   pub holds : Holds at ents vs k ys off cover left right
   pub column : (u : ℕ) → In u (stage (held at ents) (take k vs) .placed) → getD xs u 0 ≡ stage (held at ents) (take k vs) .x u
   pub roomy : length (held at ents) ≤ length xs

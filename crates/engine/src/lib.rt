@@ -12,7 +12,7 @@ ghost use Rattle.placing.specs.Stages.{third, stage};
 ghost use Rattle.placing.specs.Records.{recordOf, entriesOf};
 ghost use Rattle.contour.specs.Columns.{Readable, columnsOf};
 ghost use Rattle.engine.specs.Recorded.{recordBy};
-ghost use Rattle.engine.specs.Shows.{Shows, Room, Corners, Holds, Drawn};
+ghost use Rattle.engine.specs.Shows.{Shows, Room, Corners, Holds, Columned};
 
 // From stage k to stage k + 1: the post in position k + 1 is placed.
 pub fn place_next(
@@ -103,7 +103,7 @@ pub fn draw(
     xs: &mut [u16],
 )
     requires { ⌜ Fitted (now at) (now ents) (now vs) (now rank) × (3 ≤ k) × (k ≤ length (now vs)) × Room (length (held (now at) (now ents))) (now ys) (now off) (now cover) (now left) (now right) × (length (held (now at) (now ents)) ≤ length (now xs)) ⌝ }
-    ensures { λ r. ⌜ Drawn (now (at .entry)) (now (ents .entry)) (now (vs .entry)) k (now (ys .exit)) (now (off .exit)) (now (cover .exit)) (now (left .exit)) (now (right .exit)) (now (xs .exit)) ⌝ }
+    ensures { λ r. ⌜ Columned (now (at .entry)) (now (ents .entry)) (now (vs .entry)) k (now (ys .exit)) (now (off .exit)) (now (cover .exit)) (now (left .exit)) (now (right .exit)) (now (xs .exit)) ⌝ }
 {
     reach(at, ents, vs, rank, k, ys, off, cover, left, right);
     columns(vs, off, cover, right, xs, k);

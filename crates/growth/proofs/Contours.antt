@@ -20,7 +20,7 @@ use Rattle.order.proofs.Growth.{Names}
 use Rattle.growth.specs.Co.{Face, ContourWire, ContourPost, ContourList}
 use Rattle.growth.specs.Co.Face.{same, turn, cross}
 use Rattle.growth.proofs.Named.{post-in, post-apart, not-yet}
-use Rattle.growth.proofs.Triangles.{sides, sides-only}
+use Rattle.growth.proofs.Triangles.{all-sides, sides-only}
 use Rattle.growth.proofs.ToStages.{leave-at, leave-wire, base-wire}
 
 -- the list closes by the wire from v2 to v1
@@ -64,8 +64,8 @@ module _ (F : ℕ → ℕ → ℕ → Type 0) (v1 v2 v : ℕ) (done : List ℕ) 
       closing (inr (inl e)) = absurd (e .1)
       closing (inr (inr j)) = absurd j
 
-  pub last-run : X ++ p ∷ v ∷ q ∷ Y ≡ v1 ∷ v ∷ v2 ∷ []
-  last-run = go X Y no-X no-Y (ends .1) (ends .0)
+  pub last-contour : X ++ p ∷ v ∷ q ∷ Y ≡ v1 ∷ v ∷ v2 ∷ []
+  last-contour = go X Y no-X no-Y (ends .1) (ends .0)
     where
       a : X ++ p ∷ (M ++ q ∷ Y) ≡ (X ++ p ∷ M) ++ q ∷ Y
       a = sym (append-assoc X (p ∷ M) (q ∷ Y))
@@ -216,7 +216,7 @@ module _ (G : List (List ℕ)) (vs : List ℕ) (P : Plane G (post vs 1) (post vs
     inn = placed (length G) (omega arith) (omega arith)
 
     around-outer : ContourWire G vs (length G) v2 v1 × ContourWire G vs (length G) v1 vn × ContourWire G vs (length G) vn v2
-    around-outer = sides G A (take (length G) vs) v2 v1 vn outer in2 in1 inn
+    around-outer = all-sides G A (take (length G) vs) v2 v1 vn outer in2 in1 inn
 
     pub last-written : ContourList G vs (length G) (post vs 1 ∷ post vs (length G) ∷ post vs 2 ∷ [])
     last-written = written (length G) (vn ∷ []) single (λ x y. (to x y, from x y))

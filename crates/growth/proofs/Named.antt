@@ -48,8 +48,8 @@ module _ (G : List (List ℕ)) (vs : List ℕ) (N : Names (length G) vs) where
   post-apart i j a b c e = let q = post-one i j a (omega arith) (omega arith) c e in omega arith
 
   -- every post has a position
-  pub position : (a : ℕ) → a < length G → (j : ℕ) × (1 ≤ j) × (j ≤ length G) × (post vs j ≡ a)
-  position a h =
+  pub position-of : (a : ℕ) → a < length G → (j : ℕ) × (1 ≤ j) × (j ≤ length G) × (post vs j ≡ a)
+  position-of a h =
       let i = in-place vs a (all-there (length G) vs (N .once) (N .below) (omega (arith, N .all)) a h) in
       (suc (i .0), omega arith, omega (arith, i .1, N .all), post-suc vs (i .0) ∙ i .2)
 

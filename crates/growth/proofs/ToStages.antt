@@ -23,7 +23,7 @@ use Rattle.growth.specs.Co.{Joined, TwoConnected, Exterior, ContourWire,
 use Rattle.growth.specs.Co.Face.{same, turn}
 use Rattle.growth.specs.Co.Joined.{here, along}
 use Rattle.growth.proofs.Walks.{ring-leave}
-use Rattle.growth.proofs.Named.{first-step, post-in, post-other, post-apart, position, not-yet}
+use Rattle.growth.proofs.Named.{first-step, post-in, post-other, post-apart, position-of, not-yet}
 use Rattle.growth.proofs.Triangles.{around-waiting, triangular}
 
 module _ (G : List (List ℕ)) (vs : List ℕ) (P : Plane G (post vs 1) (post vs 2) (post vs (length G))) (O : Canonical G vs) where
@@ -95,7 +95,7 @@ module _ (G : List (List ℕ)) (vs : List ℕ) (P : Plane G (post vs 1) (post vs
     -- at a post that waits
     out-at : (x : ℕ) → ¬ (In x (take k vs)) → All x
     out-at x m a b f =
-        let t = position G vs N x (around-below x a b f) in
+        let t = position-of G vs N x (around-below x a b f) in
         subst All (t .3) (waiting-out (length G) (t .0) (omega arith) (late t) (t .2)) a b f
       where
         around-below : (x a b : ℕ) → After G x a b → x < length G
@@ -111,9 +111,9 @@ module _ (G : List (List ℕ)) (vs : List ℕ) (P : Plane G (post vs 1) (post vs
                 absurd (m (subst (λ (r : ℕ). In r (take k vs)) (t .3) i))
 
     -- a triangle that is not exterior has placed posts
-    pub inside : (u v w : ℕ) → After G u v w → ¬ (Exterior G vs k u v w)
+    pub not-exterior : (u v w : ℕ) → After G u v w → ¬ (Exterior G vs k u v w)
         → In u (take k vs) × In v (take k vs) × In w (take k vs)
-    inside u v w f no-out = (
+    not-exterior u v w f no-out = (
       go u (λ m. no-out (out-at u m v w f)),
       go v (λ m. no-out (turn (turn (out-at v m w u (A .triangle u v w f))))),
       go w (λ m. no-out (turn (out-at w m u v (A .triangle v w u (A .triangle u v w f))))),
@@ -272,7 +272,7 @@ module _ (G : List (List ℕ)) (vs : List ℕ) (P : Plane G (post vs 1) (post vs
     co1-two-connected = two-connected k h l;
     co1-triangulated = λ u v w f no-out.
         let g = follows-after G u v w f in
-        let i = inside k (omega arith) u v w g no-out in
+        let i = not-exterior k (omega arith) u v w g no-out in
         triangular G A (take k vs) u v w g (i .0) (i .1) (i .2);
     co2-base = inr (base-wire k h l);
     co3-outside = λ m a b f. out-at k (omega arith) (post vs (suc k)) (next-waits k m) a b (follows-after G (post vs (suc k)) a b f);

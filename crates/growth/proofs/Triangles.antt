@@ -57,8 +57,8 @@ module _ (G : List (List ℕ)) (A : Faces G) (placed : List ℕ) where
     alone (turn t) = next-corner (alone t)
     alone (cross t n g) = absurd (n (wired (alone t)))
 
-    pub sides : Border G placed u v w u v × Border G placed u v w v w × Border G placed u v w w u
-    sides = (
+    pub all-sides : Border G placed u v w u v × Border G placed u v w v w × Border G placed u v w w u
+    all-sides = (
       (uv, (w, after-follows G u v w f, same)),
       (vw, (u, after-follows G v w u at-v, turn same)),
       (wu, (v, after-follows G w u v at-w, turn (turn same))),
@@ -79,8 +79,8 @@ module _ (G : List (List ℕ)) (A : Faces G) (placed : List ℕ) where
       differ-pq = λ e. entry-other G A u v (uv .2) (sym e);
       differ-qr = λ e. entry-other G A v w (vw .2) (sym e);
       differ-rp = λ e. entry-other G A w u (wu .2) (sym e);
-      side-pq = sides .0;
-      side-qr = sides .1;
-      side-rp = sides .2;
+      side-pq = all-sides .0;
+      side-qr = all-sides .1;
+      side-rp = all-sides .2;
       only = sides-only;
     }

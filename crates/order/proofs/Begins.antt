@@ -17,7 +17,7 @@ use Rattle.words.proofs.Lists.{Once, in-cases, adj-in-right}
 use Rattle.words.proofs.Tests.{holds, is-true, both, either, or-left, or-right, mem-in, in-mem, all-says, says-all, place-in, count-append, count-none, count-all, once-different}
 use Rattle.rings.specs.Rings.{ring, around}
 use Rattle.rings.proofs.Around.{around-turn}
-use Rattle.rings.proofs.Places.{after, after-inside, after-end, place-around}
+use Rattle.rings.proofs.Places.{placeAfter, after-inside, after-end, place-around}
 use Rattle.order.specs.Order.{from, lead, rest, leads, oneRun, begins, run}
 use Rattle.order.proofs.Tests.{lead-rest, lead-placed, lead-all, leads-says, says-leads, from-out, begins-says, says-begins}
 use Rattle.order.proofs.Starts.{startsAt}
@@ -47,10 +47,10 @@ unfolding from
 from-inside l s i h = List·getD-append (drop s l) (take s l) 0 i (omega (arith, length-drop s l)) ∙ getD-drop s l i 0
 
 -- ---- where the run begins
-after-below : (d i : ℕ) → i < d → after d i < d
+after-below : (d i : ℕ) → i < d → placeAfter d i < d
 after-below d i h = go (decLt (suc i) d)
   where
-    go : Dec (suc i < d) → after d i < d
+    go : Dec (suc i < d) → placeAfter d i < d
     go (yes l) = rw (after-inside d i l) l
     go (no l) = rw (after-end d i (omega arith)) (omega arith)
 
@@ -82,7 +82,7 @@ module _ (placed : List ℕ) where
 
 module _ (G : List (List ℕ)) (placed : List ℕ) (v : ℕ) (o : Once (ring G v)) (one : oneRun G placed v ≡ true) where
   starts-says : (i : ℕ) → startsAt placed (ring G v) i ≡ true
-      → ¬ (In (getD (ring G v) i 0) placed) × In (getD (ring G v) (after (length (ring G v)) i) 0) placed
+      → ¬ (In (getD (ring G v) i 0) placed) × In (getD (ring G v) (placeAfter (length (ring G v)) i) 0) placed
   unfolding startsAt
   starts-says i t =
       let b = both (not (mem placed (getD (ring G v) i 0))) _ (holds _ t) in
@@ -90,7 +90,8 @@ module _ (G : List (List ℕ)) (placed : List ℕ) (v : ℕ) (o : Once (ring G v
 
   -- The run begins at the place after i, if entry i is not placed and the next one around is.
   begins-after : (i : ℕ) → i < length (ring G v) → startsAt placed (ring G v) i ≡ true
-      → (first 0 (length (ring G v)) (begins G placed v) ≡ after (length (ring G v)) i) × T (leads placed (from (after (length (ring G v)) i) (ring G v)))
+      → (first 0 (length (ring G v)) (begins G placed v) ≡ placeAfter (length (ring G v)) i)
+      × T (leads placed (from (placeAfter (length (ring G v)) i) (ring G v)))
   unfolding oneRun
   begins-after i h t =
       let l = ring G v in
@@ -103,21 +104,21 @@ module _ (G : List (List ℕ)) (placed : List ℕ) (v : ℕ) (o : Once (ring G v
       let r = first 0 (length l) (begins G placed v) in
       let b : r < length l = omega (arith, f .0) in
       let c = begins-says G placed v r (holds _ (f .1)) .0 in
-      let e : getD l (after (length l) i) 0 ≡ getD l r 0 =
-      from-first placed l r b c (getD l i 0) (getD l (after (length l) i) 0) (place-around l i h) (n .0) (n .1) in
-      let q : r ≡ after (length l) i = sym (once-different l o (after (length l) i) r (after-below (length l) i h) b e) in
+      let e : getD l (placeAfter (length l) i) 0 ≡ getD l r 0 =
+      from-first placed l r b c (getD l i 0) (getD l (placeAfter (length l) i) 0) (place-around l i h) (n .0) (n .1) in
+      let q : r ≡ placeAfter (length l) i = sym (once-different l o (placeAfter (length l) i) r (after-below (length l) i h) b e) in
       (q, subst (λ (s : ℕ). T (leads placed (from s l))) q c)
 
   pub run-after : (i : ℕ) → i < length (ring G v) → startsAt placed (ring G v) i ≡ true
-      → run G placed v ≡ lead placed (from (after (length (ring G v)) i) (ring G v))
+      → run G placed v ≡ lead placed (from (placeAfter (length (ring G v)) i) (ring G v))
   unfolding run
   run-after i h t = ap (λ (s : ℕ). lead placed (from s (ring G v))) (begins-after i h t .0)
 
   -- and it has as many entries as are placed
   pub run-after-length : (i : ℕ) → i < length (ring G v) → startsAt placed (ring G v) i ≡ true → length (run G placed v) ≡ count (mem placed) (ring G v)
   run-after-length i h t =
-      ap length (run-after i h t) ∙ lead-length placed (from (after (length (ring G v)) i) (ring G v)) (begins-after i h t .1)
-      ∙ from-count placed (after (length (ring G v)) i) (ring G v)
+      ap length (run-after i h t) ∙ lead-length placed (from (placeAfter (length (ring G v)) i) (ring G v)) (begins-after i h t .1)
+      ∙ from-count placed (placeAfter (length (ring G v)) i) (ring G v)
 
 -- Where the whole ring is placed, the run begins at v1's place, and is the whole ring read from there.
 pub run-at-v1 : (G : List (List ℕ)) (placed : List ℕ) (v : ℕ) → Once (ring G v) → ((a : ℕ) → In a (ring G v) → In a placed)

@@ -57,8 +57,8 @@ module _ (F : ℕ → ℕ → ℕ → Type 0) (v1 v2 vn : ℕ) (R : Rings F) (ou
   start-wires a b (inr (inl e)) = absurd (e .1)
 
   -- before the third post: v1, v2
-  pub start : Contour F v1 v2 (v1 ∷ v2 ∷ []) (v1 ∷ v2 ∷ [])
-  start = record {
+  pub contour-start : Contour F v1 v2 (v1 ∷ v2 ∷ []) (v1 ∷ v2 ∷ [])
+  contour-start = record {
     first = refl;
     last = refl;
     once = (elim [ inl e ↦ R .self v2 vn (rw e at outer) | inr h ↦ h ], (λ h. h, tt));
@@ -124,8 +124,9 @@ module _ (F : ℕ → ℕ → ℕ → Type 0) (v1 v2 vn : ℕ) (R : Rings F) (ou
         edge = kept-edge;
       }
 
-      pub kept : Contour F v1 v2 (done ++ v ∷ []) (X ++ p ∷ v ∷ q ∷ Y)
-      kept = same-placed F v1 v2 (v ∷ done) (done ++ v ∷ []) (X ++ p ∷ v ∷ q ∷ Y) (λ a. in-turn a (v ∷ []) done) (λ a. in-turn a done (v ∷ [])) kept-first
+      pub contour-kept : Contour F v1 v2 (done ++ v ∷ []) (X ++ p ∷ v ∷ q ∷ Y)
+      contour-kept =
+          same-placed F v1 v2 (v ∷ done) (done ++ v ∷ []) (X ++ p ∷ v ∷ q ∷ Y) (λ a. in-turn a (v ∷ []) done) (λ a. in-turn a done (v ∷ [])) kept-first
 
     -- every placed neighbour of v is in its run
     pub run-all : (a b : ℕ) → F v a b → In a done → In a (p ∷ (M ++ q ∷ []))
@@ -142,8 +143,8 @@ module _ (F : ℕ → ℕ → ℕ → Type 0) (v1 v2 vn : ℕ) (R : Rings F) (ou
         go (no n) = last (U .ends a b f h n)
 
     -- a run that is not vn's does not pass from v2 to v1
-    pub cut : ¬ (v ≡ vn) → ¬ (Adj (p ∷ (M ++ q ∷ [])) v2 v1)
-    cut ne h = ne (R .next-one v2 v1 v vn (R .triangle v v2 v1 (U .chain v2 v1 h)) outer)
+    pub run-no-turn : ¬ (v ≡ vn) → ¬ (Adj (p ∷ (M ++ q ∷ [])) v2 v1)
+    run-no-turn ne h = ne (R .next-one v2 v1 v vn (R .triangle v v2 v1 (U .chain v2 v1 h)) outer)
 
   -- a new post all of whose neighbours are placed is vn
   module _ (done K : List ℕ) (C : Contour F v1 v2 done K) (v : ℕ) (new : ¬ (In v done)) (full : (a b : ℕ) → F v a b → In a done) where

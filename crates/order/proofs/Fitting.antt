@@ -15,7 +15,7 @@ use Rattle.rings.specs.Plane.{Plane}
 use Rattle.rings.proofs.Around.{After, follows-after}
 use Rattle.rings.proofs.Says.{Faces, faces-plane, entry-below, entry-other}
 use Rattle.order.specs.Fitting.{FitsSoFar}
-use Rattle.order.proofs.Contour.{Contour, start}
+use Rattle.order.proofs.Contour.{Contour, contour-start}
 use Rattle.order.proofs.Runs.{rings}
 use Rattle.order.proofs.Growth.{Grown, grow, take-two}
 use Rattle.order.proofs.Sound.{Passes, boarded-names, passes-sound}
@@ -43,7 +43,7 @@ module _ (G : List (List ℕ)) (vn : ℕ) (vs : List ℕ) (P : Plane G (post vs 
       (λ b. b) (λ e. absurd (entry-other G fits-faces (post vs k) a j e)) (λ b. let t = in-later vs k a b in absurd (omega (arith, t .1, t .2)))
 
   pub fits-start : 2 ≤ length vs → Contour (After G) (post vs 1) (post vs 2) (take 2 vs) (post vs 1 ∷ post vs 2 ∷ [])
-  fits-start h = rw (take-two vs h) (start (After G) (post vs 1) (post vs 2) vn (rings G fits-faces) fits-outer)
+  fits-start h = rw (take-two vs h) (contour-start (After G) (post vs 1) (post vs 2) vn (rings G fits-faces) fits-outer)
 
   -- the step to the post in position k
   pub fits-grow : (k : ℕ) → 3 ≤ k → k ≤ length vs → (K : List ℕ) → Contour (After G) (post vs 1) (post vs 2) (earlier vs k) K

@@ -16,7 +16,7 @@ use Rattle.rings.specs.Rings.{ring}
 use Rattle.rings.proofs.Around.{After, around-next}
 use Rattle.rings.proofs.Says.{Faces, entry-below, entry-other}
 use Rattle.order.specs.Order.{twoPlaced, lead, rest, oneRun, oneLater, run}
-use Rattle.order.proofs.Contour.{Run, Contour, start, run-stretch, kept, run-all}
+use Rattle.order.proofs.Contour.{Run, Contour, contour-start, run-stretch, contour-kept, run-all}
 use Rattle.order.proofs.Tests.{lead-rest, from-out}
 use Rattle.order.proofs.Runs.{rings, RunIs, the-run-is, whole-is-last}
 
@@ -67,7 +67,7 @@ module _ (G : List (List ℕ)) (F : Faces G) (v1 v2 vn : ℕ) (outer : After G v
             no-turn = r .no-turn;
             before = s .2;
             now =
-                kept (After G) v1 v2 vn (rings G F) outer placed v (r .p) (r .q) (r .M) new (r .the-run) (s .0) (s .1)
+                contour-kept (After G) v1 v2 vn (rings G F) outer placed v (r .p) (r .q) (r .M) new (r .the-run) (s .0) (s .1)
                 (subst (Contour (After G) v1 v2 placed) (s .2) C);
           }
 
@@ -123,7 +123,7 @@ module _ (G : List (List ℕ)) (vs : List ℕ) (F : Faces G) (outer : After G (p
   pub start-at : 2 ≤ length G → Contour (After G) (post vs 1) (post vs 2) (take 2 vs) (post vs 1 ∷ post vs 2 ∷ [])
   start-at h =
       let n : length vs ≡ length G = N .all in
-      rw (take-two vs (omega arith)) (start (After G) (post vs 1) (post vs 2) (post vs (length G)) (rings G F) outer)
+      rw (take-two vs (omega arith)) (contour-start (After G) (post vs 1) (post vs 2) (post vs (length G)) (rings G F) outer)
 
   -- as long as the tests pass there is a contour
   pub contour-at : (k : ℕ) → 2 ≤ k → k ≤ length G

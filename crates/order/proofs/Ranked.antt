@@ -70,8 +70,8 @@ module _ (vs rank : List ℕ) (room : length vs ≤ length rank) (good : (k : �
           ∙ r j h (omega arith)
 
   -- the list names each post, so none is beyond it
-  pub ranked : RankedTo vs rank (length vs + 1) → Ranked vs rank
-  ranked r =
+  pub all-ranked : RankedTo vs rank (length vs + 1) → Ranked vs rank
+  all-ranked r =
       let once = different-once vs (order-once (length vs) vs good) in
       record {
         room = room;

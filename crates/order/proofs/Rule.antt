@@ -56,14 +56,14 @@ module _ (at ents vs rank : List ℕ) (L : Listed at ents vs rank) (k v b e : �
     rule-few few = rw (two-is, lt-leb 2 c few) refl
 
     module _ (enough : 2 ≤ c) (s : ℕ) (es : s ≡ starts (earlier vs k) (around (slice b e ents))) where
-      filled : 0 < length (ring (held at ents) (post vs k))
-      filled = rw is (omega (arith, count-length (mem (earlier vs k)) (slice b e ents)))
+      ring-filled : 0 < length (ring (held at ents) (post vs k))
+      ring-filled = rw is (omega (arith, count-length (mem (earlier vs k)) (slice b e ents)))
 
       abbrev one : Bool
       one = oneRun (held at ents) (earlier vs k) (post vs k)
 
       one-yes : s ≤ 1 → one ≡ true
-      one-yes few = starts-one-run (held at ents) (earlier vs k) (post vs k) filled (rw (is, ← es) few)
+      one-yes few = starts-one-run (held at ents) (earlier vs k) (post vs k) ring-filled (rw (is, ← es) few)
 
       one-no : 1 < s → one ≡ false
       one-no more = is-false one (λ t. omega (arith, es, rw is at (one-run-starts (held at ents) (earlier vs k) (post vs k) (is-true one t))))

@@ -17,9 +17,9 @@ use Rattle.words.proofs.Lists.{Once, in-left, in-cases, in-turn, cut-at, adj-le
 use Rattle.words.proofs.Tests.{holds, is-true, either, or-left, or-right, mem-in, in-mem, all-says, says-all, count-append, count-length, count-none}
 use Rattle.rings.specs.Rings.{ring, around}
 use Rattle.rings.proofs.Around.{After, around-one, around-in, around-next, around-cut, around-turn}
-use Rattle.rings.proofs.Says.{Faces, entry-other, ring-once, name, follows-name}
+use Rattle.rings.proofs.Says.{Faces, entry-other, ring-once, is-name, follows-name}
 use Rattle.order.specs.Order.{twoPlaced, from, lead, rest, leads, oneRun, begins, run}
-use Rattle.order.proofs.Contour.{Rings, Run, Contour, cut, full-is-last}
+use Rattle.order.proofs.Contour.{Rings, Run, Contour, run-no-turn, full-is-last}
 use Rattle.order.proofs.Tests.{lead-rest, lead-placed, leads-says, says-leads, from-out, from-at, begins-says, says-begins}
 
 -- rings and triangles, as the contour's laws want them
@@ -186,10 +186,10 @@ module _ (G : List (List ℕ)) (F : Faces G) (v1 v2 vn : ℕ) (outer : After G v
         p-in = from-out s (ring G v) p (rw split (inl refl))
 
         single : Once (Y ++ X)
-        single = once-turn X Y (rw take-append-drop (ring-once G F v (name G v p p-in)))
+        single = once-turn X Y (rw take-append-drop (ring-once G F v (is-name G v p p-in)))
 
         go : Dec (v ≡ vn) → ⊥
-        go (no ne) = cut (After G) v1 v2 vn (rings G F) outer placed v p q M new U ne i
+        go (no ne) = run-no-turn (After G) v1 v2 vn (rings G F) outer placed v p q M new U ne i
         go (yes ev) = either (not (allOf (mem placed) (ring G v))) (eqb (getD (ring G v) s 0) (post placed 1))
             (λ n. T-not (allOf (mem placed) (ring G v)) n (says-all (mem placed) (ring G v) (λ a j. in-mem placed a (full ev a j))))
             (λ hd.

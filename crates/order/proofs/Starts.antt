@@ -12,7 +12,7 @@ use Rattle.words.proofs.First.{some-true, some-found}
 use Rattle.words.proofs.Tests.{holds, is-true, either}
 use Rattle.rings.specs.Rings.{ring, around}
 use Rattle.rings.proofs.Around.{around-cut}
-use Rattle.rings.proofs.Places.{after}
+use Rattle.rings.proofs.Places.{placeAfter}
 use Rattle.order.specs.Ranked.{starts}
 use Rattle.order.specs.Order.{from, rest, leads, oneRun}
 use Rattle.order.proofs.Tests.{from-at, from-start}
@@ -134,7 +134,7 @@ module _ (placed : List ℕ) where
 
 -- ---- the same by places: entry i is not placed, and the next one around is
 unfoldable pub startsAt : List ℕ → List ℕ → ℕ → Bool
-startsAt placed l i = not (mem placed (getD l i 0)) && mem placed (getD l (after (length l) i) 0)
+startsAt placed l i = not (mem placed (getD l i 0)) && mem placed (getD l (placeAfter (length l) i) 0)
 
 module _ (placed l : List ℕ) where
   starts-first : starts placed (take 1 l) ≡ 0

@@ -14,15 +14,15 @@ use Rattle.words.proofs.Tests.{eqb-same, eqb-other}
 use Rattle.rings.specs.Rings.{around}
 
 -- the place after place i of d, around
-unfoldable pub after : ℕ → ℕ → ℕ
-after d i = cond (eqb (suc i) d) 0 (suc i)
+unfoldable pub placeAfter : ℕ → ℕ → ℕ
+placeAfter d i = cond (eqb (suc i) d) 0 (suc i)
 
-pub after-inside : (d i : ℕ) → suc i < d → after d i ≡ suc i
-unfolding after
+pub after-inside : (d i : ℕ) → suc i < d → placeAfter d i ≡ suc i
+unfolding placeAfter
 after-inside d i h = rw (eqb-other (suc i) d (λ e. omega arith))
 
-pub after-end : (d i : ℕ) → suc i ≡ d → after d i ≡ 0
-unfolding after
+pub after-end : (d i : ℕ) → suc i ≡ d → placeAfter d i ≡ 0
+unfolding placeAfter
 after-end d i e = rw (e, eqb-same d)
 
 -- the places of two neighbours, in a list that goes on with z
@@ -42,24 +42,24 @@ place-adj (x ∷ y ∷ l) z zero h = inl (refl, refl)
 place-adj (x ∷ y ∷ l) z (suc i) h = inr (place-adj (y ∷ l) z i (omega arith))
 
 -- read around, the next entry stands at the place after
-pub around-at : (l : List ℕ) (i : ℕ) → i < length l → (getD (around l) i 0 ≡ getD l i 0) × (getD (around l) (suc i) 0 ≡ getD l (after (length l) i) 0)
+pub around-at : (l : List ℕ) (i : ℕ) → i < length l → (getD (around l) i 0 ≡ getD l i 0) × (getD (around l) (suc i) 0 ≡ getD l (placeAfter (length l) i) 0)
 unfolding around
 around-at [] i h = absurd (omega arith)
 around-at (x ∷ l) i h = (List·getD-append (x ∷ l) (x ∷ []) 0 i h, go (decLt (suc i) (length (x ∷ l))))
   where
-    go : Dec (suc i < length (x ∷ l)) → getD ((x ∷ l) ++ x ∷ []) (suc i) 0 ≡ getD (x ∷ l) (after (length (x ∷ l)) i) 0
+    go : Dec (suc i < length (x ∷ l)) → getD ((x ∷ l) ++ x ∷ []) (suc i) 0 ≡ getD (x ∷ l) (placeAfter (length (x ∷ l)) i) 0
     go (yes k) = List·getD-append (x ∷ l) (x ∷ []) 0 (suc i) k ∙ ap (λ (j : ℕ). getD (x ∷ l) j 0) (sym (after-inside (length (x ∷ l)) i k))
     go (no k) =
         let e : length (x ∷ l) ≡ suc i = omega arith in
         getD-at (x ∷ l) x [] 0 (suc i) e ∙ ap (λ (j : ℕ). getD (x ∷ l) j 0) (sym (after-end (length (x ∷ l)) i (sym e)))
 
 -- b follows a around l: at some place stands a, and b at the place after it
-pub around-place : (l : List ℕ) (a b : ℕ) → Adj (around l) a b → (i : ℕ) × (i < length l) × (getD l i 0 ≡ a) × (getD l (after (length l) i) 0 ≡ b)
+pub around-place : (l : List ℕ) (a b : ℕ) → Adj (around l) a b → (i : ℕ) × (i < length l) × (getD l i 0 ≡ a) × (getD l (placeAfter (length l) i) 0 ≡ b)
 unfolding around
 around-place [] a b h = absurd h
 around-place (x ∷ l) a b h = let t = adj-place a b (x ∷ l) x h in (t .0, t .1, t .2, sym (around-at (x ∷ l) (t .0) (t .1) .1) ∙ t .3)
 
-pub place-around : (l : List ℕ) (i : ℕ) → i < length l → Adj (around l) (getD l i 0) (getD l (after (length l) i) 0)
+pub place-around : (l : List ℕ) (i : ℕ) → i < length l → Adj (around l) (getD l i 0) (getD l (placeAfter (length l) i) 0)
 unfolding around
 place-around [] i h = absurd (omega arith)
 place-around (x ∷ l) i h = subst (Adj ((x ∷ l) ++ x ∷ []) (getD (x ∷ l) i 0)) (around-at (x ∷ l) i h .1) (place-adj (x ∷ l) x i h)

@@ -22,15 +22,15 @@ next-corner (inr (inl (e, f, g))) = inr (inr (f, g, e))
 next-corner (inr (inr (e, f, g))) = inl (f, g, e)
 
 -- only a name below n has neighbours
-pub name : (G : List (List ℕ)) (u a : ℕ) → In a (ring G u) → u < length G
-name G u a h = go (decLt u (length G))
+pub is-name : (G : List (List ℕ)) (u a : ℕ) → In a (ring G u) → u < length G
+is-name G u a h = go (decLt u (length G))
   where
     go : Dec (u < length G) → u < length G
     go (yes l) = l
     go (no nl) = absurd (rw (List·getD-eq-default G [] {n = u} (omega arith)) at h)
 
 pub follows-name : (G : List (List ℕ)) (u a b : ℕ) → After G u a b → u < length G
-follows-name G u a b f = name G u a (around-in (ring G u) a b f .0)
+follows-name G u a b f = is-name G u a (around-in (ring G u) a b f .0)
 
 -- ---- Rings
 pub record RingKept (G : List (List ℕ)) (u : ℕ) : Type 0 where
@@ -119,13 +119,13 @@ faces-plane G v1 v2 vn P = record {
 module _ (G : List (List ℕ)) (F : Faces G) where
   -- of an entry of any ring
   pub entry-below : (u v : ℕ) → In v (ring G u) → v < length G
-  entry-below u v h = F .kept u (name G u v h) .below v h
+  entry-below u v h = F .kept u (is-name G u v h) .below v h
 
   pub entry-other : (u v : ℕ) → In v (ring G u) → v ≢ u
-  entry-other u v h = F .kept u (name G u v h) .other v h
+  entry-other u v h = F .kept u (is-name G u v h) .other v h
 
   pub entry-returned : (u v : ℕ) → In v (ring G u) → In u (ring G v)
-  entry-returned u v h = F .kept u (name G u v h) .returned v h
+  entry-returned u v h = F .kept u (is-name G u v h) .returned v h
 
   pub ring-once : (u : ℕ) → u < length G → Once (ring G u)
   ring-once u h = different-once (ring G u) (F .kept u h .once)

@@ -54,9 +54,9 @@ pub around-length : (x : ℕ) (l : List ℕ) → length (around (x ∷ l)) ≡ s
 unfolding around
 around-length x l = omega (arith, length-append (x ∷ l) (x ∷ []))
 
-pub around-place : (l : List ℕ) (j : ℕ) → j < length l → getD (around l) j 0 ≡ getD l j 0
+pub around-entry : (l : List ℕ) (j : ℕ) → j < length l → getD (around l) j 0 ≡ getD l j 0
 unfolding around
-around-place l j h = List·getD-append l (take 1 l) 0 j h
+around-entry l j h = List·getD-append l (take 1 l) 0 j h
 
 pub around-end : (l : List ℕ) → 0 < length l → getD (around l) (length l) 0 ≡ getD l 0 0
 unfolding around
@@ -109,12 +109,12 @@ module _ (l : List ℕ) (b e i : ℕ) (h : b ≤ i) (k : i < e) (m : e ≤ lengt
   A = around (slice b e l)
 
   pub around-here : getD A (i - b) 0 ≡ getD l i 0
-  around-here = around-place (slice b e l) (i - b) (omega (arith, length-slice b e l m)) ∙ part-at l b e i h k m
+  around-here = around-entry (slice b e l) (i - b) (omega (arith, length-slice b e l m)) ∙ part-at l b e i h k m
 
   pub around-after : i + 1 < e → getD l (i + 1) 0 ≡ getD A (i - b + 1) 0
   around-after n =
       let q : i + 1 - b ≡ i - b + 1 = omega arith in
-      sym (around-place (slice b e l) (i - b + 1) (omega (arith, length-slice b e l m)) ∙ rw q at (part-at l b e (i + 1) (omega arith) n m))
+      sym (around-entry (slice b e l) (i - b + 1) (omega (arith, length-slice b e l m)) ∙ rw q at (part-at l b e (i + 1) (omega arith) n m))
 
   pub around-first : e ≤ i + 1 → getD l b 0 ≡ getD A (i - b + 1) 0
   around-first n =

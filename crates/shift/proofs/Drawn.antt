@@ -7,7 +7,7 @@ use Rattle.words.specs.Lists.{In}
 use Rattle.placing.specs.Stages.{Stage}
 use Rattle.drawing.specs.Meeting.{Places}
 use Rattle.drawing.proofs.Build.{Build, Post}
-use Rattle.shift.proofs.Step.{Laid}
+use Rattle.shift.proofs.Shifting.{Laid}
 
 -- where the posts stand at a stage
 abbrev pub places : Stage → Places

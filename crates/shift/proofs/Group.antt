@@ -10,7 +10,7 @@ use Rattle.drawing.specs.Meeting.{Places}
 use Rattle.drawing.proofs.Numbers.{by-le}
 use Rattle.words.proofs.Lists.{in-cases, in-left, in-right}
 use Rattle.words.proofs.Chains.{Chain, chain-at, chain-to, chain-join, chain-in, chain-from, chain-last}
-use Rattle.shift.proofs.Shift.{Moves}
+use Rattle.shift.proofs.Shift.{Slides}
 
 -- the groups up to p's stay, those from q's on move by j, and those between move by i and become v's
 pub record Regroup (s s' : Places) (g g' : ℕ → ℕ) (Here : ℕ → Type 0) (p q v i j : ℕ) : Type 0 where
@@ -51,7 +51,7 @@ module _ (s s' : Places) (g g' : ℕ → ℕ) (Here : ℕ → Type 0) (p q v i j
     right u (mi a a' b e) = omega arith
     right u (hi a b e) = omega arith
 
-    pub moves : Moves s s' g g' Here
+    pub moves : Slides s s' g g' Here
     moves = record { right = λ u h. right u (moved u h); level = S .level; order = λ z u k l. order z u (moved z k) (moved u l) }
 
 -- the contour, along which groups grow

@@ -1,8 +1,8 @@
 pub mod Groups
-pub mod Turns
+pub mod Peaks
 pub mod Shift
 pub mod Group
-pub mod Step
+pub mod Shifting
 pub mod Drawn
 pub mod Over
 pub mod Next

@@ -14,7 +14,7 @@ use Rattle.words.proofs.Lists.{in-cases, in-left, in-right}
 use Rattle.drawing.proofs.Build.{Build, post, Post, on-contour}
 use Rattle.shift.proofs.Groups.{sides}
 use Rattle.shift.proofs.Group.{Regroup, Moved, lo, mi, hi, moved}
-use Rattle.shift.proofs.Step.{Step, laid}
+use Rattle.shift.proofs.Shifting.{Shifts, laid}
 use Rattle.shift.proofs.Drawn.{places, Drawn}
 use Rattle.placing.proofs.Placed.{movedBy}
 use Rattle.shift.proofs.Over.{over, before, inside, after, ends, ones, in-ones, by-0, by-1, by-2, placed-over}
@@ -149,7 +149,7 @@ module _ (t : Stage) (X : List ℕ) (p : ℕ) (M : List ℕ) (q : ℕ) (Y : List
         exact-y = omega arith;
       }
 
-  step-of : Step (places t) (places t') g g' (Post B) p q v
+  step-of : Shifts (places t) (places t') g g' (Post B) p q v
   step-of = record { shift = regroup; v-sum = omega (arith, one-step); v-dif = omega (arith, one-step) }
 
   -- ---- the groups

@@ -17,7 +17,7 @@ use Rattle.drawing.proofs.Build.{Build, Post}
 use Rattle.words.proofs.Tests.{mem-true, mem-false}
 use Rattle.shift.proofs.Groups.{in-groups, groups-in, sides}
 use Rattle.shift.proofs.Group.{to-q, from-p, upto-p, onto-q}
-use Rattle.shift.proofs.Step.{Later, later-trans}
+use Rattle.shift.proofs.Shifting.{Onward, onward-trans}
 use Rattle.shift.proofs.Drawn.{places, Drawn}
 
 -- C₁ is the contour up to p, C₂ from q on
@@ -43,10 +43,10 @@ module _ (t : Stage) (X : List ℕ) (p : ℕ) (M : List ℕ) (q : ℕ) (Y : List
   open Drawn D using (g)
 
   abbrev E : ℕ → ℕ → Type 0
-  E = Later (places t) g
+  E = Onward (places t) g
 
   abbrev trans : (a b c : ℕ) → E a b → E b c → E a c
-  trans = later-trans (places t) g
+  trans = onward-trans (places t) g
 
   abbrev grow : (a b : ℕ) → E a b → g a < g b
   grow a b h = h .ord
@@ -65,7 +65,7 @@ module _ (t : Stage) (X : List ℕ) (p : ℕ) (M : List ℕ) (q : ℕ) (Y : List
     in-right a X (p ∷ (M ++ q ∷ Y)) (inr (in-left a M (q ∷ Y) i)),
   )
 
-  pub ends : Later (places t) g p q
+  pub ends : Onward (places t) g p q
   ends = to-q g X p M q Y E trans grow (D .laid .rise) p (inl refl)
 
   -- the posts that move by 1

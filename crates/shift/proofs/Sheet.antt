@@ -13,14 +13,14 @@ use Rattle.drawing.proofs.Build.{Build, Built, Good, on-contour}
 use Rattle.drawing.proofs.Static.{none-meet, different}
 use Rattle.shift.proofs.Tri.{Tri}
 use Rattle.shift.proofs.Shift.{good}
-use Rattle.shift.proofs.Step.{Later, later-trans}
+use Rattle.shift.proofs.Shifting.{Onward, onward-trans}
 use Rattle.shift.proofs.Drawn.{places, Drawn}
 
 -- a place on the contour is one post's
-one-place : (s : Places) (g : ℕ → ℕ) (l : List ℕ) (a b : ℕ) → Chain (Later s g) l → In a l → In b l → g a ≡ g b → a ≡ b
+one-place : (s : Places) (g : ℕ → ℕ) (l : List ℕ) (a b : ℕ) → Chain (Onward s g) l → In a l → In b l → g a ≡ g b → a ≡ b
 one-place s g (c ∷ l) a b h (inl i) (inl j) e = i ∙ sym j
-one-place s g (c ∷ l) a b h (inl i) (inr j) e = absurd (omega (arith, chain-from (Later s g) (later-trans s g) c l h b j .ord, ap g i))
-one-place s g (c ∷ l) a b h (inr i) (inl j) e = absurd (omega (arith, chain-from (Later s g) (later-trans s g) c l h a i .ord, ap g j))
+one-place s g (c ∷ l) a b h (inl i) (inr j) e = absurd (omega (arith, chain-from (Onward s g) (onward-trans s g) c l h b j .ord, ap g i))
+one-place s g (c ∷ l) a b h (inr i) (inl j) e = absurd (omega (arith, chain-from (Onward s g) (onward-trans s g) c l h a i .ord, ap g j))
 one-place s g (c ∷ d ∷ l) a b h (inr i) (inr j) e = one-place s g (d ∷ l) a b (h .1) i j e
 
 module _ {t : Stage} {C : List ℕ} {B : Build C} (D : Drawn t B) where

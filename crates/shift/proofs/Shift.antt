@@ -11,7 +11,7 @@ use Rattle.drawing.specs.Areas.{PositiveArea}
 use Rattle.words.proofs.Lists.{in-right, in-run}
 use Rattle.words.proofs.Chains.{Chain, chain-map, chain-in}
 use Rattle.drawing.proofs.Build.{Build, base, post, Post, Before, Good, on-contour}
-use Rattle.shift.proofs.Turns.{moved-turn, scaled}
+use Rattle.shift.proofs.Peaks.{moved-turn, scaled}
 
 -- ---- what is kept. g u: the place on the contour of u's group
 pub record Left (s : Places) (g : ℕ → ℕ) (a b : ℕ) : Type 0 where
@@ -19,23 +19,23 @@ pub record Left (s : Places) (g : ℕ → ℕ) (a b : ℕ) : Type 0 where
   pub ord : g a ≤ g b
 
 -- v over two neighbours of its run
-pub record Held (s : Places) (g : ℕ → ℕ) (v a b : ℕ) : Type 0 where
+pub record HeldPair (s : Places) (g : ℕ → ℕ) (v a b : ℕ) : Type 0 where
   pub turn : PositiveArea s a b v
   pub from : g a ≤ g v
   pub to : g v ≤ g b
   pub low-a : g v < g b → s .y a ≤ s .y v
   pub low-b : g a < g v → s .y b ≤ s .y v
 
-pub record Holds (s : Places) (g : ℕ → ℕ) (p : ℕ) (M : List ℕ) (q v : ℕ) : Type 0 where
+pub record HeldRun (s : Places) (g : ℕ → ℕ) (p : ℕ) (M : List ℕ) (q v : ℕ) : Type 0 where
   pub left : Left s g p v
   pub right : Left s g v q
-  pub run : Chain (Held s g v) (p ∷ (M ++ q ∷ []))
+  pub run : Chain (HeldPair s g v) (p ∷ (M ++ q ∷ []))
 
-abbrev pub Kept : Places → (ℕ → ℕ) → {C : List ℕ} → Build C → Type 0
-Kept s g (base a b) = Left s g a b
-Kept s g (post L p M q R v B) = Holds s g p M q v × Kept s g B
+abbrev pub HeldAll : Places → (ℕ → ℕ) → {C : List ℕ} → Build C → Type 0
+HeldAll s g (base a b) = Left s g a b
+HeldAll s g (post L p M q R v B) = HeldRun s g p M q v × HeldAll s g B
 
-pub good : (s : Places) (g : ℕ → ℕ) {C : List ℕ} (B : Build C) → Kept s g B → Good s B
+pub good : (s : Places) (g : ℕ → ℕ) {C : List ℕ} (B : Build C) → HeldAll s g B → Good s B
 good s g (base a b) k = k .before
 good s g (post L p M q R v B) k = (
   record {
@@ -51,19 +51,19 @@ module _ (s s' : Places) (g g' : ℕ → ℕ) where
   open Places s using (x, y)
   open Places s' using (x as x', y as y')
 
-  pub record Moves (Here : ℕ → Type 0) : Type 0 where
+  pub record Slides (Here : ℕ → Type 0) : Type 0 where
     pub right : (u : ℕ) → Here u → x u ≤ x' u
     pub level : (u : ℕ) → Here u → y' u ≡ y u
     pub order : (u w : ℕ) → Here u → Here w → g u ≤ g w → (x' u + x w ≤ x' w + x u) × (g' u ≤ g' w)
 
-  module _ {Here : ℕ → Type 0} (m : Moves Here) where
+  module _ {Here : ℕ → Type 0} (m : Slides Here) where
     left-kept : (a b : ℕ) → Here a → Here b → Left s g a b → Left s' g' a b
     left-kept a b ia ib l =
         let o = m .order a b ia ib (l .ord) in
         let tie : x' b ≤ x' a → y' a < y' b = λ h. omega (arith, o, l .before .tie (omega (arith, o)), m .level a ia, m .level b ib) in
         record { before = record { le = omega (arith, o, l .before .le); tie = tie }; ord = o .1 }
 
-    held-kept : (v a b : ℕ) → Here v → Here a → Here b → Held s g v a b → Held s' g' v a b
+    held-kept : (v a b : ℕ) → Here v → Here a → Here b → HeldPair s g v a b → HeldPair s' g' v a b
     held-kept v a b iv ia ib h =
         let o = m .order a v ia iv (h .from) in
         let r = m .order v b iv ib (h .to) in
@@ -84,7 +84,7 @@ module _ (s s' : Places) (g g' : ℕ → ℕ) where
           low-b = λ k. omega (arith, h .low-b (back-a k), m .level b ib, m .level v iv);
         }
 
-  pub kept : {C : List ℕ} (B : Build C) → Moves (Post B) → Kept s g B → Kept s' g' B
+  pub kept : {C : List ℕ} (B : Build C) → Slides (Post B) → HeldAll s g B → HeldAll s' g' B
   kept (base a b) m k = left-kept m a b (inl refl) (inr refl) k
   kept (post L p M q R v B) m k = (
     record {

@@ -11,8 +11,8 @@ use Rattle.placing.specs.Stages.{Stage, third}
 use Rattle.drawing.specs.Meeting.{Places}
 use Rattle.drawing.specs.Areas.{PositiveArea}
 use Rattle.drawing.proofs.Build.{Build, base, post, Post, on-contour}
-use Rattle.shift.proofs.Shift.{Held}
-use Rattle.shift.proofs.Step.{Laid}
+use Rattle.shift.proofs.Shift.{HeldPair}
+use Rattle.shift.proofs.Shifting.{Laid}
 use Rattle.shift.proofs.Drawn.{places, Drawn}
 
 abbrev pub three : (a b c : ℕ) → Build (a ∷ c ∷ b ∷ [])
@@ -28,7 +28,7 @@ module _ (s : Places) (g : ℕ → ℕ) (a b c : ℕ) (A : Corner s g a 0 0 0) (
   turn : PositiveArea s a b c
   turn = rw (A .isX, A .isY, B .isX, B .isY, C .isX, C .isY) (omega arith)
 
-  held : Held s g c a b
+  held : HeldPair s g c a b
   held = record { turn = turn; from = omega (arith, A, C); to = omega (arith, B, C); low-a = omega (arith, A, C); low-b = omega (arith, B, C) }
 
   at : (u : ℕ) → In u (a ∷ c ∷ b ∷ []) → (s .y u ≤ s .x u) × (s .x u + s .y u ≤ 2) × ((s .x u + s .y u) % 2 ≡ 0)

@@ -5,7 +5,7 @@ use Prim.Native.Nat.{_≤_, _+_, _-_}
 use mathlib.Core.Path.{_≡_}
 use lib.ListN.{length}
 use Rattle.order.proofs.Sound.{position-says}
-use Rattle.order.proofs.Ranked.{RankedTo, rank-more, ranked}
+use Rattle.order.proofs.Ranked.{RankedTo, rank-more, all-ranked}
 use borrow.Author.Needs.{needs}
 
 abbrev Inv-loop : tie.InvT-loop
@@ -68,7 +68,7 @@ returns c =
     let l = entry .args .vs .now in
     let v = c .before .loop in
     let e : v .k ≡ length l + 1 = omega arith in
-    ranked l (v .rank) (omega arith) (entry .pre .2) (rw e at (v .inv .3))
+    all-ranked l (v .rank) (omega arith) (entry .pre .2) (rw e at (v .inv .3))
 
 pub ranks-spec : {M : Type 1} → statement M
 ranks-spec =

@@ -10,35 +10,35 @@ use Rattle.drawing.specs.Meeting.{Places}
 use Rattle.words.proofs.Lists.{in-cases, in-left, in-right, in-run}
 use Rattle.words.proofs.Chains.{Chain, chain-run}
 use Rattle.drawing.proofs.Build.{Build, post, Post, on-contour}
-use Rattle.shift.proofs.Turns.{peak}
-use Rattle.shift.proofs.Shift.{Held, Holds, Kept, kept}
+use Rattle.shift.proofs.Peaks.{peak}
+use Rattle.shift.proofs.Shift.{HeldPair, HeldRun, HeldAll, kept}
 use Rattle.shift.proofs.Group.{Regroup, Moved, lo, mi, hi, moved, moves, run, to-q, from-p, upto-p, onto-q, renewed}
 
 -- b stands later on the contour than a: neither x + y nor x - y falls
-pub record Later (s : Places) (g : ℕ → ℕ) (a b : ℕ) : Type 0 where
+pub record Onward (s : Places) (g : ℕ → ℕ) (a b : ℕ) : Type 0 where
   pub sum : s .x a + s .y a ≤ s .x b + s .y b
   pub dif : s .x a + s .y b ≤ s .x b + s .y a
   pub far : s .x a < s .x b
   pub ord : g a < g b
 
-pub later-trans : (s : Places) (g : ℕ → ℕ) (a b c : ℕ) → Later s g a b → Later s g b c → Later s g a c
-later-trans s g a b c h k = omega arith
+pub onward-trans : (s : Places) (g : ℕ → ℕ) (a b c : ℕ) → Onward s g a b → Onward s g b c → Onward s g a c
+onward-trans s g a b c h k = omega arith
 
 -- what each stage keeps: the triangles, a contour that rises, the grid, and x + y even on the contour
 pub record Laid (s : Places) (g : ℕ → ℕ) (width : ℕ) {C : List ℕ} (B : Build C) : Type 0 where
-  pub kept : Kept s g B
-  pub rise : Chain (Later s g) C
+  pub kept : HeldAll s g B
+  pub rise : Chain (Onward s g) C
   pub bounds : (u : ℕ) → Post B u → (s .y u ≤ s .x u) × (s .x u + s .y u ≤ width)
   pub even : (u : ℕ) → In u C → (s .x u + s .y u) % 2 ≡ 0
 
 -- shifts by 1 and 2; v is where the diagonals from p and q meet
-pub record Step (s s' : Places) (g g' : ℕ → ℕ) (Here : ℕ → Type 0) (p q v : ℕ) : Type 0 where
+pub record Shifts (s s' : Places) (g g' : ℕ → ℕ) (Here : ℕ → Type 0) (p q v : ℕ) : Type 0 where
   pub shift : Regroup s s' g g' Here p q v 1 2
   pub v-sum : s' .x v + s' .y v ≡ s' .x q + s' .y q
   pub v-dif : s' .x v + s' .y p ≡ s' .x p + s' .y v
 
 module _ (s s' : Places) (g g' : ℕ → ℕ) (width : ℕ) (L : List ℕ) (p : ℕ) (M : List ℕ) (q : ℕ) (R : List ℕ) (v : ℕ) (B : Build (L ++ p ∷ (M ++ q ∷ R)))
-    (G : Laid s g width B) (S : Step s s' g g' (Post B) p q v) where
+    (G : Laid s g width B) (S : Shifts s s' g g' (Post B) p q v) where
   open Places s using (x, y)
   open Places s' using (x as x', y as y')
 
@@ -46,10 +46,10 @@ module _ (s s' : Places) (g g' : ℕ → ℕ) (width : ℕ) (L : List ℕ) (p : 
   shift = S .shift
 
   abbrev E : ℕ → ℕ → Type 0
-  E = Later s g
+  E = Onward s g
 
   abbrev trans : (a b c : ℕ) → E a b → E b c → E a c
-  trans = later-trans s g
+  trans = onward-trans s g
 
   abbrev grow : (a b : ℕ) → E a b → g a < g b
   grow a b h = h .ord
@@ -115,7 +115,7 @@ module _ (s s' : Places) (g g' : ℕ → ℕ) (width : ℕ) (L : List ℕ) (p : 
   low-b : (b : ℕ) → In b (M ++ q ∷ []) → x b + y b ≤ x q + y q
   low-b b = in-cases b M (q ∷ []) (λ i. later-q' b (inr i) .sum) (elim [ inl e ↦ omega (arith, ap x e, ap y e) | inr i ↦ absurd i ])
 
-  seen : (a b : ℕ) → In a (p ∷ M) → In b (M ++ q ∷ []) → Later s g a b → Seen a b
+  seen : (a b : ℕ) → In a (p ∷ M) → In b (M ++ q ∷ []) → Onward s g a b → Seen a b
   seen a b i j l = go (moves-of a ia) (moves-of b ib)
     where
       ia : Post B a
@@ -124,10 +124,10 @@ module _ (s s' : Places) (g g' : ℕ → ℕ) (width : ℕ) (L : List ℕ) (p : 
       ib : Post B b
       ib = on b (inr j)
 
-      aq : Later s g a q
+      aq : Onward s g a q
       aq = later-q' a i
 
-      pb : Later s g p b
+      pb : Onward s g p b
       pb = later-p' b j
 
       go : Moves-of a → Moves-of b → Seen a b
@@ -141,7 +141,7 @@ module _ (s s' : Places) (g g' : ℕ → ℕ) (width : ℕ) (L : List ℕ) (p : 
       go (hi c d e) (mi k k' m f) = absurd (omega (arith, aq))
       go (hi c d e) (hi k m f) = absurd (omega (arith, aq))
 
-  held : (a b : ℕ) → In a (p ∷ M) → In b (M ++ q ∷ []) → Later s g a b → Held s' g' v a b
+  held : (a b : ℕ) → In a (p ∷ M) → In b (M ++ q ∷ []) → Onward s g a b → HeldPair s' g' v a b
   held a b i j l =
       let t = seen a b i j l in
       let α : ℕ = x' b + y' b - (x' a + y' a) in
@@ -159,23 +159,23 @@ module _ (s s' : Places) (g g' : ℕ → ℕ) (width : ℕ) (L : List ℕ) (p : 
         low-b = λ h. omega (arith, t, S .v-sum, S .v-dif);
       }
 
-  later-p : Later s' g' p v
+  later-p : Onward s' g' p v
   later-p = omega (arith, ends, pq, S .v-sum, S .v-dif, shift .v-place)
 
-  later-q : Later s' g' v q
+  later-q : Onward s' g' v q
   later-q = omega (arith, ends, pq, S .v-sum, S .v-dif, shift .v-place)
 
-  holds : Holds s' g' p M q v
+  holds : HeldRun s' g' p M q v
   holds = record { left = omega (arith, later-p); right = omega (arith, later-q); run = chain-run q p M held (run g L p M q R E trans grow (G .rise)) }
 
   -- ---- the next stage
-  same-later : (a b : ℕ) → Post B a → Post B b → ((g a ≤ g p) × (g b ≤ g p)) ⊎ ((g q ≤ g a) × (g q ≤ g b)) → Later s g a b → Later s' g' a b
+  same-later : (a b : ℕ) → Post B a → Post B b → ((g a ≤ g p) × (g b ≤ g p)) ⊎ ((g q ≤ g a) × (g q ≤ g b)) → Onward s g a b → Onward s' g' a b
   same-later a b i j (inl h) l = omega (arith, l, shift .level a i, shift .level b j, shift .lo a i (h .0), shift .lo b j (h .1))
   same-later a b i j (inr h) l = omega (arith, l, shift .level a i, shift .level b j, shift .hi a i (h .0), shift .hi b j (h .1))
 
-  rise' : Chain (Later s' g') (L ++ p ∷ v ∷ q ∷ R)
+  rise' : Chain (Onward s' g') (L ++ p ∷ v ∷ q ∷ R)
   rise' =
-      renewed g L p M q R E trans grow (G .rise) (Later s' g') v
+      renewed g L p M q R E trans grow (G .rise) (Onward s' g') v
       (λ a b i j h k. same-later a b (on-contour B a i) (on-contour B b j) (inl (h, k)))
       (λ a b i j h k. same-later a b (on-contour B a i) (on-contour B b j) (inr (h, k))) later-p later-q
 
