@@ -4,7 +4,8 @@ ghost use Prim.Native.Nat.{_+_, _-_, _/_, _≤_, _<_};
 ghost use lib.ListN.{length, getD, set};
 ghost use Rattle.block.specs.Layout.{bias};
 ghost use Rattle.contour.specs.Columns.{until, laid, columnOf, settled, ColumnFits, Settles, Rooms, Line};
-ghost use Rattle.contour.specs.Arrays.{path, walk, along, Below, covered, hung, Fits, dropOf, riseOf, runEnd, farAt, newOff, newHeight, Spans, Ready, Over};
+ghost use Rattle.contour.specs.Arrays.{path, walk, along, Below, covered, hung, Fits, dropOf, riseOf, runEnd, farAt, newOff, newHeight, Spans};
+ghost use Rattle.contour.specs.Arrays.{Ready, Over};
 use block::Block;
 
 // The new post's offset from w_p, with w_q `far` from it: a signed difference of heights, and half of an even sum.

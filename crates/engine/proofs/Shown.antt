@@ -16,7 +16,8 @@ use Rattle.contour.specs.Arrays.{path, along, Below, covered, hung, runEnd, far
 use Rattle.engine.specs.Shows.{Shows, Room}
 use Rattle.engine.proofs.Kept.{Kept, StepMoves, moves}
 use Rattle.engine.proofs.Stepped.{Changed, right-not, shows-next}
-use Rattle.engine.proofs.Along.{below-all, path-but-last, path-but-first, path-inner, walk-last, along-list, fits-list, hung-off, hung-length, hung-at, covered-off, covered-length, covered-at}
+use Rattle.engine.proofs.Along.{below-all, path-but-last, path-but-first, path-inner, walk-last, along-list, fits-list, hung-off, hung-length}
+use Rattle.engine.proofs.Along.{hung-at, covered-off, covered-length, covered-at}
 
 -- the halves: xp and yp are w_p's, xq and yq w_q's before it moves by 2
 halves : (xp yp xq yq f d h xv yv : ℕ) → xp + f ≡ xq + 2 → xp + yp ≤ xq + yq → xp + yq ≤ xq + yp → d ≡ (f + yq - yp) / 2 → h ≡ (f + yq + yp) / 2

@@ -8,7 +8,8 @@ use native.Mathlib.Decide.{ℕ-discrete}
 use lib.ListN.{length, getD, List·getD-append}
 use Rattle.words.specs.Lists.{In, lastOf, Adj}
 use Rattle.words.specs.Positions.{post}
-use Rattle.words.proofs.Lists.{Once, once-split, once-drop, in-dec, in-left, in-right, in-cases, adj-in-left, adj-in-right, adj-left, adj-right, adj-cases, adj-init, adj-tail, last-append, last-in}
+use Rattle.words.proofs.Lists.{Once, once-split, once-drop, in-dec, in-left, in-right, in-cases, adj-in-left, adj-in-right, adj-left, adj-right}
+use Rattle.words.proofs.Lists.{adj-cases, adj-init, adj-tail, last-append, last-in}
 use Rattle.placing.specs.Stages.{Stage, place}
 use Rattle.placing.proofs.Steps.{Step, place-placed}
 use Rattle.shift.proofs.Groups.{sides}

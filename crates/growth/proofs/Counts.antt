@@ -14,7 +14,8 @@ use Rattle.rings.proofs.Around.{After, around-in, around-next}
 use Rattle.rings.proofs.Says.{Faces, entry-below, entry-other, entry-returned, ring-once}
 use Rattle.order.proofs.Contour.{Rings}
 use Rattle.order.proofs.Runs.{rings}
-use Rattle.growth.proofs.Sums.{flag, flag-yes, flag-no, flag-same, sum, sum-same, sum-zero, sum-hit, sum-one-off, sum-cut, darts, corners, cornersAt, darts-more, corners-more}
+use Rattle.growth.proofs.Sums.{flag, flag-yes, flag-no, flag-same, sum, sum-same, sum-zero, sum-hit, sum-one-off, sum-cut, darts, corners}
+use Rattle.growth.proofs.Sums.{cornersAt, darts-more, corners-more}
 use Rattle.growth.proofs.Walks.{adj-dec}
 
 -- the posts of a list: each a post, and each once

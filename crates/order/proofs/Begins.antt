@@ -14,7 +14,8 @@ use Rattle.words.specs.Lists.{In, mem, allOf, count, Adj}
 use Rattle.words.specs.Positions.{post}
 use Rattle.words.proofs.First.{some-found, first-found}
 use Rattle.words.proofs.Lists.{Once, in-cases, adj-in-right}
-use Rattle.words.proofs.Tests.{holds, is-true, both, either, or-left, or-right, mem-in, in-mem, all-says, says-all, place-in, count-append, count-none, count-all, once-different}
+use Rattle.words.proofs.Tests.{holds, is-true, both, either, or-left, or-right, mem-in, in-mem, all-says, says-all, place-in, count-append}
+use Rattle.words.proofs.Tests.{count-none, count-all, once-different}
 use Rattle.rings.specs.Rings.{ring, around}
 use Rattle.rings.proofs.Around.{around-turn}
 use Rattle.rings.proofs.Places.{placeAfter, after-inside, after-end, place-around}

@@ -4,7 +4,8 @@ use mathlib.Core.Logic.{inl, inr}
 use Prim.Native.Nat.{ℕ}
 use mathlib.Core.List.{List, [], _∷_, _++_, append-assoc}
 use Rattle.words.specs.Lists.{In, lastOf, Head, Adj}
-use Rattle.words.proofs.Lists.{Once, head-same, in-right, in-turn, in-dec, cut-at, adj-in-left, adj-in-right, adj-right, adj-left, adj-cases, stretch, head-one, head-is, swap-in, swap-once, once-next, last-append, before-last}
+use Rattle.words.proofs.Lists.{Once, head-same, in-right, in-turn, in-dec, cut-at, adj-in-left, adj-in-right, adj-right, adj-left, adj-cases, stretch}
+use Rattle.words.proofs.Lists.{head-one, head-is, swap-in, swap-once, once-next, last-append, before-last}
 
 -- What the rings give. `F u a b`: b follows a at u.
 pub record Rings (F : ℕ → ℕ → ℕ → Type 0) : Type 0 where

@@ -13,7 +13,8 @@ use Rattle.words.specs.First.{first}
 use Rattle.words.specs.Lists.{In, mem, allOf, count, Adj}
 use Rattle.words.specs.Positions.{post}
 use Rattle.words.proofs.First.{some-found, first-found}
-use Rattle.words.proofs.Lists.{Once, in-left, in-cases, in-turn, cut-at, adj-left, adj-right, adj-cases, adj-init, adj-tail, adj-in-left, adj-in-right, once-turn}
+use Rattle.words.proofs.Lists.{Once, in-left, in-cases, in-turn, cut-at, adj-left, adj-right, adj-cases, adj-init, adj-tail, adj-in-left}
+use Rattle.words.proofs.Lists.{adj-in-right, once-turn}
 use Rattle.words.proofs.Tests.{holds, is-true, either, or-left, or-right, mem-in, in-mem, all-says, says-all, count-append, count-length, count-none}
 use Rattle.rings.specs.Rings.{ring, around}
 use Rattle.rings.proofs.Around.{After, around-one, around-in, around-next, around-cut, around-turn}

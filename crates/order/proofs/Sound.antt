@@ -22,7 +22,8 @@ use Rattle.rings.specs.Rings.{ring, around, ringRule, triangleRule, outerRule}
 use Rattle.rings.specs.Plane.{Reached, Plane}
 use Rattle.rings.specs.Plane.Reached.{here, along}
 use Rattle.rings.proofs.Around.{After, follows-after, around-in}
-use Rattle.rings.proofs.Says.{Faces, says-ring, triangle-says, says-triangle, outer-says, says-outer, faces-tested, faces-plane, entry-below, entry-other, entry-returned, ring-once}
+use Rattle.rings.proofs.Says.{Faces, says-ring, triangle-says, says-triangle, outer-says, says-outer, faces-tested, faces-plane, entry-below}
+use Rattle.rings.proofs.Says.{entry-other, entry-returned, ring-once}
 use Rattle.order.specs.Order.{twoPlaced, oneRun}
 use Rattle.order.specs.Canonical.{Two, Canonical}
 use Rattle.order.proofs.Tests.{two-says, says-two, run-says, says-run, later-says}

@@ -2,7 +2,8 @@ use Rattle.contour.proofs.spread.Statement.{statement}
 use Rattle.contour.proofs.spread.Tie as tie
 use native.Mathlib.Omega.{arith}
 use Prim.Native.Nat.{_-_}
-use Rattle.contour.proofs.Reading.{Spread, spread-start, spread-done, spread-right, spread-off, spread-xs, spread-fits, spread-same, spread-end, spread-again}
+use Rattle.contour.proofs.Reading.{Spread, spread-start, spread-done, spread-right, spread-off, spread-xs, spread-fits, spread-same}
+use Rattle.contour.proofs.Reading.{spread-end, spread-again}
 use borrow.Author.Needs.{needs}
 
 abbrev Inv-loop : tie.InvT-loop
