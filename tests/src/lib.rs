@@ -19,7 +19,7 @@ pub mod parts;
 pub mod refusals;
 pub mod reply;
 pub mod rng;
-pub mod run;
 pub mod runs;
 pub mod tally;
 pub mod text;
+pub mod trial;

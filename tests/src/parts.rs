@@ -5,15 +5,15 @@ mod wrong;
 
 use crate::cases;
 use crate::rng::Rng;
-use crate::run::Run;
 use crate::tally::Tally;
+use crate::trial::Trial;
 use std::time::Instant;
 
 /// A part: its name on the command line, what it is, and what it does.
 pub struct Part {
     pub name: &'static str,
     pub about: &'static str,
-    body: fn(&mut Run),
+    body: fn(&mut Trial),
 }
 
 macro_rules! parts {
@@ -24,7 +24,7 @@ macro_rules! parts {
 
 /// All parts. The longest come first, so that two processes end at about the same time.
 pub const PARTS: &[Part] = parts![
-    "cases", "the paper's cases 1 to 11": |run| cases::run(&mut run.tester);
+    "cases", "the paper's cases 1 to 11": |trial| cases::run(&mut trial.tester);
     "large", "random boards up to the most posts there can be": right::large_boards;
     "small", "every board with every order up to 8 posts": right::every_small_board;
     "orders", "every order of every board up to 7 posts": right::every_order_of_small_boards;
@@ -38,13 +38,13 @@ pub const PARTS: &[Part] = parts![
 ];
 
 impl Part {
-    /// Run this part. Its generator is its own, so that it does the same alone
+    /// Trial this part. Its generator is its own, so that it does the same alone
     /// as among the others.
     pub fn run(&self, seed: u64) -> Tally {
         let start = Instant::now();
-        let mut run = Run::new(Rng::named(seed, self.name));
-        (self.body)(&mut run);
-        let tally = run.tester.tally;
+        let mut trial = Trial::new(Rng::named(seed, self.name));
+        (self.body)(&mut trial);
+        let tally = trial.tester.tally;
         let against = match tally.orders() {
             0 => String::new(),
             orders => format!(" {orders} orders against co1 to co3,"),

@@ -8,7 +8,7 @@ use std::io::{self, Read, Write};
 use std::process::ExitCode;
 
 /// The fewest posts of a board by chance.
-const FEWEST: usize = 5;
+const FEWEST_BY_CHANCE: usize = 5;
 
 const USAGE: &str = "\
 board pack < TEXT > BLOCK     write a block from its text
@@ -76,10 +76,10 @@ fn show() -> Result<ExitCode, String> {
 
 fn make(posts: &str, seed: &str) -> Result<ExitCode, String> {
     let posts = match posts.parse() {
-        Ok(posts @ FEWEST..=MOST) => posts,
+        Ok(posts @ FEWEST_BY_CHANCE..=MOST) => posts,
         _ => {
             return Err(format!(
-                "`{posts}` is not a number of posts from {FEWEST} to {MOST}\n"
+                "`{posts}` is not a number of posts from {FEWEST_BY_CHANCE} to {MOST}\n"
             ))
         }
     };

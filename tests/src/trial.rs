@@ -1,4 +1,4 @@
-//! A run of the tests: its generator, and what it asks of a block.
+//! What a part asks of a block, with the part's own generator and counts.
 
 use crate::board::Board;
 use crate::compare::{fails, passes_step_11, Tester};
@@ -14,16 +14,16 @@ const HUGE: [usize; 5] = [
     usize::MAX,
 ];
 
-/// One part's run.
-pub struct Run {
+/// One part's comparisons.
+pub struct Trial {
     pub tester: Tester,
     pub rng: Rng,
 }
 
-impl Run {
+impl Trial {
     pub fn new(rng: Rng) -> Self {
         let tester = Tester::default();
-        Run { tester, rng }
+        Trial { tester, rng }
     }
 
     /// All three services with every stage and name, and rooms around those needed.
