@@ -3,6 +3,17 @@
 
 #include <stdio.h>
 
+/* The record as the library returns it: a compiler that lays it out otherwise refuses this (C99 has no _Static_assert). */
+#define ASSERTED(name, fact) typedef char name[(fact) ? 1 : -1]
+
+ASSERTED(size_is_16, sizeof(pgb_post_reply) == 16);
+ASSERTED(reply_at_0, offsetof(pgb_post_reply, reply) == 0);
+ASSERTED(x_at_4, offsetof(pgb_post_reply, x) == 4);
+ASSERTED(y_at_6, offsetof(pgb_post_reply, y) == 6);
+ASSERTED(standing_at_8, offsetof(pgb_post_reply, standing) == 8);
+ASSERTED(first_at_10, offsetof(pgb_post_reply, first) == 10);
+ASSERTED(second_at_12, offsetof(pgb_post_reply, second) == 12);
+
 static int differs(const char *what, unsigned long got, unsigned long wanted)
 {
     if (got != wanted)

@@ -2,4 +2,5 @@
 
 pub mod boost;
 pub mod clock;
+pub mod columns;
 pub mod table;

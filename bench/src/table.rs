@@ -1,4 +1,7 @@
-//! A table of times, with ratios and growth.
+//! A table of times, with ratios and growth. What is printed follows from the
+//! names of the times.
+
+use crate::columns::{Time, RATIOS};
 
 /// The boards of one kind and size.
 pub struct Row {
@@ -6,23 +9,25 @@ pub struct Row {
     pub posts: usize,
     /// The highest degree among them.
     pub degree: usize,
-    /// Microseconds a call: unit, linear, paper and perhaps Boost.
-    pub times: Vec<f64>,
+    pub times: Vec<Time>,
+}
+
+impl Row {
+    fn time(&self, name: &str) -> Option<f64> {
+        let found = self.times.iter().find(|time| time.0 == name)?;
+        Some(found.1)
+    }
 }
 
 pub struct Table {
     title: &'static str,
-    with_boost: bool,
     rows: Vec<Row>,
 }
 
 impl Table {
-    pub fn new(title: &'static str, with_boost: bool) -> Self {
-        Table {
-            title,
-            with_boost,
-            rows: Vec::new(),
-        }
+    pub fn new(title: &'static str) -> Self {
+        let rows = Vec::new();
+        Table { title, rows }
     }
 
     pub fn add(&mut self, row: Row) {
@@ -32,11 +37,13 @@ impl Table {
     pub fn print(&self) {
         println!("\n{}", self.title);
         print!("{:<10}{:>6}{:>8}", "boards", "n", "degree");
-        print!("{:>10}{:>10}{:>10}", "unit", "linear", "paper");
-        if self.with_boost {
-            print!("{:>10}", "boost");
+        for (name, _) in self.rows.first().map_or(&[][..], |row| &row.times) {
+            print!("{name:>10}");
         }
-        println!("{:>13}{:>12}", "unit/linear", "unit/paper");
+        for (one, other, _) in RATIOS {
+            print!("{:>13}", format!("{one}/{other}"));
+        }
+        println!();
         for row in &self.rows {
             print_row(row);
         }
@@ -48,20 +55,25 @@ impl Table {
 
 fn print_row(row: &Row) {
     print!("{:<10}{:>6}{:>8}", row.kind, row.posts, row.degree);
-    for time in &row.times {
+    for (_, time) in &row.times {
         print!("{time:>10.1}");
     }
-    let [unit, linear, paper] = [0, 1, 2].map(|i| row.times[i]);
-    println!("{:>13.2}{:>12.3}", unit / linear, unit / paper);
+    for (one, other, digits) in RATIOS {
+        if let (Some(one), Some(other)) = (row.time(one), row.time(other)) {
+            print!("{:>13.digits$}", one / other);
+        }
+    }
+    println!();
 }
 
 /// How many times longer the largest boards of a kind take than the smallest.
 fn print_growth(small: &Row, large: &Row) {
     let (kind, from, to) = (small.kind, small.posts, large.posts);
     print!("growth, {kind}, from {from} to {to}:");
-    let names = ["unit", "linear", "paper", "boost"];
-    for (i, time) in small.times.iter().enumerate() {
-        print!("  {} {:.1}", names[i], large.times[i] / time);
+    for &(name, time) in &small.times {
+        if let Some(longer) = large.time(name) {
+            print!("  {name} {:.1}", longer / time);
+        }
     }
     println!();
 }

@@ -1,5 +1,7 @@
 //! A board as a block describes it, and the block's bytes.
 
+use crate::layout;
+
 /// An order of fitting and a ring for each name: a board, whether right or wrong.
 #[derive(Clone, PartialEq, Eq, Debug)]
 pub struct Board {
@@ -14,10 +16,8 @@ impl Board {
 
     /// The block of this board, with its sum.
     pub fn block(&self) -> Vec<u8> {
-        let mut block = b"PGB".to_vec();
+        let mut block = layout::header(self.order.len() as u16);
         let mut put = |number: u16| block.extend(number.to_be_bytes());
-        put(1);
-        put(self.order.len() as u16);
         self.order.iter().for_each(|&name| put(name));
         self.rings.iter().for_each(|ring| put(ring.len() as u16));
         self.rings.iter().flatten().for_each(|&entry| put(entry));
@@ -38,7 +38,7 @@ pub fn sum(bytes: &[u8]) -> u16 {
 pub fn mend_sum(block: &mut [u8]) {
     if let Some(at) = block.len().checked_sub(2) {
         let right = sum(&block[..at]);
-        block[at..].copy_from_slice(&right.to_be_bytes());
+        layout::put(block, at, right);
     }
 }
 

@@ -2,6 +2,7 @@
 
 use crate::board::{d, mend_sum, t, Board};
 use crate::compare::Tester;
+use crate::layout::{self, FEWEST, MOST, N_AT};
 use crate::reply::{Record, Refusal, Standing};
 
 fn refused<T>(number: u16, place: u16) -> Result<T, Refusal> {
@@ -16,8 +17,7 @@ fn d_with_order(order: [u16; 5]) -> Board {
 }
 
 fn sum_of(block: &[u8]) -> u16 {
-    let last = block.len() - 2;
-    u16::from_be_bytes([block[last], block[last + 1]])
+    layout::get(block, block.len() - 2)
 }
 
 /// Run all numbered cases.
@@ -54,15 +54,15 @@ fn refused_blocks(tester: &mut Tester) {
     assert_eq!(tester.check(&autumn), refused(13, 3));
 
     let mut t_237 = t().block();
-    t_237[32] = 237;
+    layout::put(&mut t_237, layout::sum_at(3), 237);
     assert_eq!(tester.check(&t_237), refused(6, 0));
     assert_eq!(tester.check(&t().block()[..32]), refused(5, 0));
 
     assert_eq!(tester.check(&[]), refused(1, 0));
     assert_eq!(tester.check(b"PGB\0\x01\0"), refused(1, 0));
-    for n in [2u16, 1001] {
+    for n in [FEWEST - 1, MOST + 1] {
         let mut block = d().block();
-        block[5..7].copy_from_slice(&n.to_be_bytes());
+        layout::put(&mut block, N_AT, n as u16);
         mend_sum(&mut block);
         assert_eq!(tester.check(&block), refused(4, 0));
     }

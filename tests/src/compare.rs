@@ -3,7 +3,9 @@
 
 use crate::board::Board;
 use crate::contours::{self, Condition};
+use crate::refusals::{Service, BY_POSITION};
 use crate::reply::{post_reply, readable, word, Record, Refusal, Standing};
+use crate::tally::Tally;
 use crate::{ffi, geometry, paper, runs, text};
 use std::fmt::Display;
 use std::process::exit;
@@ -11,58 +13,17 @@ use std::process::exit;
 /// Entries around the lent buffer that nobody may touch.
 const MARGIN: usize = 16;
 
-/// Counts what was compared.
+/// Compares, and counts what was compared.
 #[derive(Default)]
 pub struct Tester {
-    pub calls: u64,
-    /// How often each refusal came, by number; accepted calls count as 0.
-    pub replies: [u64; 18],
-    /// How many sheets were tested for wires that meet.
-    pub sheets: u64,
-    pub pairs_of_stages: u64,
-    /// How many inner triangles were tested for their turn.
-    pub triangles: u64,
-    pub conditions: Conditions,
-    pub forced: Forced,
-    /// How many contours told by records were compared with a face.
-    pub contours: u64,
-}
-
-/// How many orders were compared with document 002's conditions.
-#[derive(Default)]
-pub struct Conditions {
-    /// Accepted, and the conditions hold at every stage.
-    pub kept: u64,
-    /// Refused, by the condition that is broken first.
-    pub co1: u64,
-    pub co2: u64,
-    pub co3: u64,
-    /// Accepted and compared at some stages alone.
-    pub kept_at_some_stages: u64,
-}
-
-impl Conditions {
-    pub fn orders(&self) -> u64 {
-        self.kept + self.kept_at_some_stages + self.co1 + self.co2 + self.co3
-    }
-}
-
-/// How many orders that pass steps 1 to 11 were asked whether one run is forced.
-#[derive(Default)]
-pub struct Forced {
-    pub orders: u64,
-    /// Each post has an earlier neighbour, from position 3 on, and a later one,
-    /// below n: with two earlier ones everywhere, accepted.
-    pub with_two: u64,
-    /// The same with one earlier neighbour somewhere, refused with 12.
-    pub with_one: u64,
+    pub tally: Tally,
 }
 
 impl Tester {
     pub fn check(&mut self, block: &[u8]) -> Result<u16, Refusal> {
         let expected = paper::check(block);
         let got = ffi::check(block);
-        self.count(expected.err());
+        self.count(Service::Check, expected.err());
         if got != word(expected) {
             differs("check", block, readable(got), readable(word(expected)));
         }
@@ -77,7 +38,7 @@ impl Tester {
         let lent = MARGIN..MARGIN + room;
         let expected_reply = paper::sheet(block, stage, &mut expected[lent.clone()]);
         let got_reply = ffi::sheet(block, stage, &mut got[lent.clone()]);
-        self.count(expected_reply.err());
+        self.count(Service::Sheet, expected_reply.err());
         let call = || format!("sheet, stage {stage}, room {room}");
         if got_reply != word(expected_reply) {
             let expected = readable(word(expected_reply));
@@ -93,7 +54,7 @@ impl Tester {
     pub fn post(&mut self, block: &[u8], stage: usize, name: usize) -> Result<Record, Refusal> {
         let expected = paper::post(block, stage, name);
         let got = ffi::post(block, stage, name);
-        self.count(expected.err());
+        self.count(Service::Post, expected.err());
         if got != post_reply(expected) {
             let call = format!("post, stage {stage}, name {name}");
             differs(&call, block, got, post_reply(expected));
@@ -101,9 +62,10 @@ impl Tester {
         expected
     }
 
-    fn count(&mut self, refusal: Option<Refusal>) {
-        self.calls += 1;
-        self.replies[refusal.map_or(0, |refusal| usize::from(refusal.number))] += 1;
+    fn count(&mut self, service: Service, refusal: Option<Refusal>) {
+        let number = refusal.map(|refusal| refusal.number);
+        self.tally.calls += 1;
+        self.tally.replies.count(service, number, 1);
     }
 
     /// Test the third demand and the turn of every inner triangle on the sheets
@@ -118,16 +80,16 @@ impl Tester {
                     &block,
                 );
             };
-            self.sheets += 1;
+            self.tally.sheets += 1;
             if let Some(fault) = geometry::stage_fault(board, &sheet) {
                 fails(&format!("stage {stage}: {fault}"), &block);
             }
             match geometry::turning_triangles(board, &sheet) {
-                Ok(triangles) => self.triangles += triangles as u64,
+                Ok(triangles) => self.tally.triangles += triangles as u64,
                 Err(fault) => fails(&format!("stage {stage}: {fault}"), &block),
             }
             if let Some((earlier, old)) = before {
-                self.pairs_of_stages += 1;
+                self.tally.pairs_of_stages += 1;
                 if let Some(fault) = geometry::moves_fault(&old, &sheet, stage - earlier) {
                     fails(&format!("from stage {earlier} to {stage}: {fault}"), &block);
                 }
@@ -148,10 +110,10 @@ impl Tester {
         }
         let broken = contours::first_broken(board);
         match (reply, broken) {
-            (Ok(_), None) => self.conditions.kept += 1,
-            (Err(_), Some((_, Condition::Co1))) => self.conditions.co1 += 1,
-            (Err(_), Some((_, Condition::Co2))) => self.conditions.co2 += 1,
-            (Err(_), Some((_, Condition::Co3))) => self.conditions.co3 += 1,
+            (Ok(_), None) => self.tally.kept += 1,
+            (Err(_), Some((_, Condition::Co1))) => self.tally.co1 += 1,
+            (Err(_), Some((_, Condition::Co2))) => self.tally.co2 += 1,
+            (Err(_), Some((_, Condition::Co3))) => self.tally.co3 += 1,
             _ => fails(
                 &format!("co1 to co3: first broken {broken:?}, but the reply is {reply:?}"),
                 &board.block(),
@@ -167,7 +129,7 @@ impl Tester {
                 fails(&what, &board.block());
             }
         }
-        self.conditions.kept_at_some_stages += 1;
+        self.tally.kept_at_some_stages += 1;
     }
 
     /// Compare the exterior face of every stage of an accepted board with the
@@ -188,7 +150,7 @@ impl Tester {
                     fails(&format!("{what}: {sides}"), &block);
                 }
             }
-            self.contours += 1;
+            self.tally.contours += 1;
         }
     }
 
@@ -198,7 +160,7 @@ impl Tester {
         if !passes_step_11(reply) {
             return;
         }
-        self.forced.orders += 1;
+        self.tally.forced += 1;
         let wrong = |what: &str| fails(&format!("{what}: the reply is {reply:?}"), &board.block());
         let posts = runs::by_position(board);
         if !runs::both_ways(&posts) {
@@ -213,14 +175,14 @@ impl Tester {
             ));
         }
         match runs::first_with_fewer_than_two(&posts) {
-            None if reply.is_ok() => self.forced.with_two += 1,
+            None if reply.is_ok() => self.tally.forced_with_two += 1,
             None => wrong("two earlier neighbours everywhere"),
             Some(position) => {
                 let (number, place) = (12, position as u16);
                 if reply != Err(Refusal { number, place }) {
                     wrong(&format!("one earlier neighbour at position {position}"));
                 }
-                self.forced.with_one += 1;
+                self.tally.forced_with_one += 1;
             }
         }
     }
@@ -228,7 +190,7 @@ impl Tester {
 
 /// Whether check accepts or refuses only by the order, at a position from 3 on.
 pub fn passes_step_11(reply: Result<u16, Refusal>) -> bool {
-    reply.map_or_else(|refusal| refusal.number > 11, |_| true)
+    reply.map_or_else(|refusal| BY_POSITION.contains(&refusal.number), |_| true)
 }
 
 /// A post's left and right neighbour on a contour, if it is there: at the ends itself.

@@ -2,6 +2,7 @@
 
 use crate::board::{mend_sum, Board};
 use crate::boards::{beside, grid_torus, ordered, seven_post_torus, stacked, Rings};
+use crate::layout::{self, FEWEST, HEADER, MOST, N_AT, VERSION_AT};
 use crate::rng::Rng;
 
 /// A block being damaged, with the board it was made from.
@@ -21,26 +22,31 @@ impl Draft<'_> {
 
     /// The offset of the order entry in a position, counted from 0.
     fn order_at(&self, position: usize) -> usize {
-        7 + 2 * position
+        layout::order_at(position)
     }
 
     /// The offset of a post's degree.
     fn degree_at(&self, name: usize) -> usize {
-        7 + 2 * self.n() + 2 * name
+        layout::degree_at(self.n(), name)
     }
 
     /// The offset of entry i of a post's list.
     fn entry_at(&self, name: usize, i: usize) -> usize {
         let before: usize = (0..name).map(|other| self.degree(other)).sum();
-        7 + 4 * self.n() + 2 * (before + i)
+        layout::entry_at(self.n(), before + i)
+    }
+
+    /// Where the lists end.
+    fn sum_at(&self) -> usize {
+        layout::sum_at(self.n())
     }
 
     fn get(&self, at: usize) -> u16 {
-        u16::from_be_bytes([self.bytes[at], self.bytes[at + 1]])
+        layout::get(&self.bytes, at)
     }
 
     fn put(&mut self, at: usize, number: u16) {
-        self.bytes[at..at + 2].copy_from_slice(&number.to_be_bytes());
+        layout::put(&mut self.bytes, at, number);
     }
 
     fn exchange(&mut self, at: usize, other: usize) {
@@ -343,14 +349,17 @@ pub const KINDS: &[Damage] = damages![
         draft.put_list(0, &entries)
     },
     // the header and the sum
-    "another mark": |draft, rng| draft.bytes[rng.below(3)] ^= 1 << rng.below(8),
-    "another version": |draft, rng| draft.put(3, rng.pick(&[0, 2, 256, 257, 65535])),
+    "another mark": |draft, rng| draft.bytes[rng.below(VERSION_AT)] ^= 1 << rng.below(8),
+    "another version": |draft, rng| draft.put(VERSION_AT, rng.pick(&[0, 2, 256, 257, 65535])),
     "n one off": |draft, rng| {
         let n = draft.n() as u16;
-        draft.put(5, rng.pick(&[n - 1, n + 1]))
+        draft.put(N_AT, rng.pick(&[n - 1, n + 1]))
     },
-    "n out of bounds": |draft, rng| draft.put(5, rng.pick(&[0, 1, 2, 1001, 4096, 65535])),
-    "another n": |draft, rng| draft.put(5, rng.between(3, 1000) as u16),
+    "n out of bounds": |draft, rng| {
+        let n = rng.pick(&[0, 1, FEWEST - 1, MOST + 1, 4096, 65535]);
+        draft.put(N_AT, n as u16)
+    },
+    "another n": |draft, rng| draft.put(N_AT, rng.between(FEWEST, MOST) as u16),
     "a sum one off": |draft, rng| {
         let at = draft.bytes.len() - 2;
         let by = rng.pick(&[1, 65535, 256]);
@@ -360,13 +369,15 @@ pub const KINDS: &[Damage] = damages![
         let last = draft.bytes.len() - 1;
         draft.bytes.swap(last - 1, last)
     },
-    "low bytes first": |draft, _rng| draft.bytes[3..].chunks_exact_mut(2).for_each(<[u8]>::reverse),
+    "low bytes first": |draft, _rng| {
+        draft.bytes[VERSION_AT..].chunks_exact_mut(2).for_each(<[u8]>::reverse)
+    },
     // the length
-    "cut in the header": |draft, rng| draft.cut(0, 7, rng),
-    "cut in the order": |draft, rng| draft.cut(8, 7 + 2 * draft.n(), rng),
-    "cut in the degrees": |draft, rng| draft.cut(8 + 2 * draft.n(), 7 + 4 * draft.n(), rng),
-    "cut in the lists": |draft, rng| draft.cut(8 + 4 * draft.n(), 16 * draft.n() - 17, rng),
-    "cut in the sum": |draft, rng| draft.cut(16 * draft.n() - 17, 16 * draft.n() - 16, rng),
+    "cut in the header": |draft, rng| draft.cut(0, HEADER, rng),
+    "cut in the order": |draft, rng| draft.cut(HEADER + 1, draft.degree_at(0), rng),
+    "cut in the degrees": |draft, rng| draft.cut(draft.degree_at(0) + 1, draft.entry_at(0, 0), rng),
+    "cut in the lists": |draft, rng| draft.cut(draft.entry_at(0, 0) + 1, draft.sum_at(), rng),
+    "cut in the sum": |draft, rng| draft.cut(draft.sum_at(), draft.sum_at() + 1, rng),
     "bytes appended": |draft, rng| {
         let more = rng.between(1, 20);
         draft.bytes.extend((0..more).map(|_| rng.draw() as u8))
@@ -390,16 +401,16 @@ pub const KINDS: &[Damage] = damages![
         draft.bytes[at] = rng.draw() as u8
     },
     "a number replaced by one that could be a name": |draft, rng| {
-        let at = 7 + 2 * rng.below((draft.bytes.len() - 7) / 2);
+        let at = HEADER + 2 * rng.below((draft.bytes.len() - HEADER) / 2);
         draft.put(at, rng.below(draft.n() + 1) as u16)
     },
     "all zero": |draft, _rng| draft.bytes.fill(0),
-    "all zero behind the header": |draft, _rng| draft.bytes[7..].fill(0),
+    "all zero behind the header": |draft, _rng| draft.bytes[HEADER..].fill(0),
     "chance behind the header": |draft, rng| {
-        draft.bytes[7..].iter_mut().for_each(|byte| *byte = rng.draw() as u8)
+        draft.bytes[HEADER..].iter_mut().for_each(|byte| *byte = rng.draw() as u8)
     },
     "chance names behind a right order and right degrees": |draft, rng| {
-        for at in (7 + 4 * draft.n()..draft.bytes.len() - 2).step_by(2) {
+        for at in (draft.entry_at(0, 0)..draft.sum_at()).step_by(2) {
             draft.put(at, rng.below(draft.n()) as u16);
         }
     },

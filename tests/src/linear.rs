@@ -6,6 +6,7 @@
 //! The benchmark measures the unit against it, and it stands in for the unit
 //! when the C library isn't linked.
 
+use crate::layout::{FEWEST, MOST};
 use crate::reply::{Record, Refusal, Standing};
 
 /// Check a block: its number of posts, or a refusal.
@@ -128,7 +129,7 @@ fn read_header(block: &[u8]) -> Result<usize, Refusal> {
         return refuse(3, 0);
     }
     let n = number(block, 5) as usize;
-    if !(3..=1000).contains(&n) {
+    if !(FEWEST..=MOST).contains(&n) {
         return refuse(4, 0);
     }
     if block.len() != 16 * n - 15 {

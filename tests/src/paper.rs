@@ -1,7 +1,8 @@
 //! The paper done literally: every step of the table in its order, every stage
 //! by moving whole groups. It is written to be held beside the paper, not for
-//! speed, and shares nothing with any other implementation.
+//! speed, and shares nothing but the limits with any other implementation.
 
+use crate::layout::{FEWEST, MOST};
 use crate::reply::{Record, Refusal, Standing};
 
 /// Check a block: its number of posts, or a refusal.
@@ -100,7 +101,7 @@ fn header(block: &[u8]) -> Result<usize, Refusal> {
         return refuse(3, 0);
     }
     let n = number_at(block, 5);
-    if !(3..=1000).contains(&n) {
+    if !(FEWEST..=MOST).contains(&n) {
         return refuse(4, 0);
     }
     if block.len() != 16 * n - 15 {

@@ -1,6 +1,7 @@
 //! The replies of the three services, and the form that the C library gives them.
 
 use std::fmt::{self, Display};
+use std::mem::{align_of, offset_of, size_of};
 
 /// A refusal: its number in the paper's table, and its place.
 #[derive(Clone, Copy, PartialEq, Eq, Debug)]
@@ -36,6 +37,15 @@ pub struct PostReply {
     pub first: u16,
     pub second: u16,
 }
+
+/// What header.c asserts of the C struct.
+const _: () = {
+    assert!(size_of::<PostReply>() == 16 && align_of::<PostReply>() == 4);
+    assert!(offset_of!(PostReply, reply) == 0);
+    assert!(offset_of!(PostReply, x) == 4 && offset_of!(PostReply, y) == 6);
+    assert!(offset_of!(PostReply, standing) == 8);
+    assert!(offset_of!(PostReply, first) == 10 && offset_of!(PostReply, second) == 12);
+};
 
 impl Display for PostReply {
     fn fmt(&self, f: &mut fmt::Formatter) -> fmt::Result {

@@ -7,6 +7,12 @@ impl Rng {
         Rng(seed)
     }
 
+    /// A generator of its own for each name: what the others draw changes nothing in it.
+    pub fn named(seed: u64, name: &str) -> Self {
+        let mixed = |rng: Rng, byte: u8| Rng(Rng(rng.0 ^ u64::from(byte)).draw());
+        name.bytes().fold(Rng(seed), mixed)
+    }
+
     pub fn draw(&mut self) -> u64 {
         self.0 = self.0.wrapping_add(0x9E37_79B9_7F4A_7C15);
         let mut z = self.0;

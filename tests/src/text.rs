@@ -11,6 +11,7 @@
 //! post's name and its neighbours, counter-clockwise.
 
 use crate::board::{sum, Board};
+use crate::layout::{self, FEWEST, HEADER, MARK, MOST, N_AT, VERSION, VERSION_AT};
 use crate::paper;
 use std::fmt::{self, Display, Write};
 
@@ -41,7 +42,8 @@ struct Said {
 }
 
 /// Read a board from its text. The board needn't be a right one, but a block
-/// must be able to hold it: 3 to 1,000 posts, a list for each, 6n-12 entries.
+/// must be able to hold it: as many posts as are allowed, a list for each, and
+/// as many entries as there are to be.
 pub fn parse(text: &str) -> Result<Board, TextError> {
     let mut order: Option<Said> = None;
     let mut lists: Vec<(u16, Said)> = Vec::new();
@@ -87,8 +89,8 @@ fn numbers(words: &str, line: usize) -> Result<Vec<u16>, TextError> {
 
 fn assemble(order: Said, lists: Vec<(u16, Said)>) -> Result<Board, TextError> {
     let n = order.numbers.len();
-    if !(3..=1000).contains(&n) {
-        let message = format!("the order has {n} posts; a board has 3 to 1000");
+    if !layout::allowed(n) {
+        let message = format!("the order has {n} posts; a board has {FEWEST} to {MOST}");
         return wrong(Some(order.line), message);
     }
     let mut rings: Vec<Option<Said>> = (0..n).map(|_| None).collect();
@@ -113,11 +115,9 @@ fn assemble(order: Said, lists: Vec<(u16, Said)>) -> Result<Board, TextError> {
         .map(|said| said.numbers)
         .collect();
     let entries: usize = rings.iter().map(Vec::len).sum();
-    if entries != 6 * n - 12 {
-        let message = format!(
-            "the lists have {entries} entries; a board of {n} posts has {}",
-            6 * n - 12
-        );
+    let right = layout::entries(n);
+    if entries != right {
+        let message = format!("the lists have {entries} entries; a board of {n} posts has {right}");
         return wrong(None, message);
     }
     Ok(Board {
@@ -140,7 +140,7 @@ pub fn show(block: &[u8]) -> Shown {
         Ok(n) => format!("# accepted: a board of {n} posts\n"),
         Err(refusal) => format!("# refused {} {}\n", refusal.number, refusal.place),
     };
-    if block.len() < 7 {
+    if block.len() < HEADER {
         remark(
             &mut text,
             format!("only {} bytes: there is no header", block.len()),
@@ -167,43 +167,52 @@ fn line(text: &mut String, start: impl Display, numbers: &[u16]) {
     text.push('\n');
 }
 
-/// The parts of a block after its first seven bytes are known to be there.
+/// The parts of a block whose header is there.
 fn show_parts(text: &mut String, block: &[u8]) {
-    if &block[..3] != b"PGB" {
-        remark(text, format!("the mark is {:02x?}, not PGB", &block[..3]));
+    if block[..VERSION_AT] != MARK {
+        let mark = &block[..VERSION_AT];
+        remark(text, format!("the mark is {mark:02x?}, not PGB"));
     }
-    let mut header = Reader(&block[3..7]);
-    let (version, n) = (header.numbers(1)[0], usize::from(header.numbers(1)[0]));
-    if version != 1 {
-        remark(text, format!("the version is {version}, not 1"));
+    let version = layout::get(block, VERSION_AT);
+    let n = usize::from(layout::get(block, N_AT));
+    if version != VERSION {
+        remark(text, format!("the version is {version}, not {VERSION}"));
     }
-    if !(3..=1000).contains(&n) {
-        remark(text, format!("n is {n}, not from 3 to 1000"));
+    if !layout::allowed(n) {
+        remark(text, format!("n is {n}, not from {FEWEST} to {MOST}"));
     }
-    let right_length = 16 * n as i64 - 15;
-    let has_sum = block.len() as i64 >= right_length && right_length >= 9;
-    if block.len() as i64 != right_length {
-        let message = format!("{} bytes, but n = {n} needs {right_length}", block.len());
-        remark(text, message);
+    let end = end_of_lists(text, block, n);
+    show_numbers(
+        text,
+        &mut Reader(&block[HEADER..end.unwrap_or(block.len())]),
+        n,
+    );
+    match end {
+        Some(end) => show_sum(text, block, end),
+        None => remark(text, "there is no sum".into()),
     }
-    let end = if has_sum {
-        right_length as usize - 2
-    } else {
-        block.len()
-    };
-    show_numbers(text, &mut Reader(&block[7..end]), n);
-    if !has_sum {
-        remark(text, "there is no sum".into());
-        return;
+}
+
+/// Where the lists end and the sum stands, if the block goes on so far.
+fn end_of_lists(text: &mut String, block: &[u8], n: usize) -> Option<usize> {
+    if n < FEWEST {
+        return None;
     }
-    let told = Reader(&block[end..]).numbers(1)[0];
-    let right = sum(&block[..end]);
+    let (length, right) = (block.len(), layout::length(n));
+    if length != right {
+        remark(text, format!("{length} bytes, but n = {n} needs {right}"));
+    }
+    (length >= right).then(|| layout::sum_at(n))
+}
+
+fn show_sum(text: &mut String, block: &[u8], at: usize) {
+    let (told, right) = (layout::get(block, at), sum(&block[..at]));
     if told == right {
         remark(text, format!("sum {told}"));
     } else {
         remark(text, format!("sum {told}, but the bytes give {right}"));
     }
-    let beyond = block.len() - end - 2;
+    let beyond = block.len() - at - 2;
     if beyond > 0 {
         remark(text, format!("bytes beyond the sum: {beyond}"));
     }
@@ -316,7 +325,7 @@ mod tests {
         );
         assert_eq!(
             message("# T\norder 0 1\n"),
-            "line 2: the order has 2 posts; a board has 3 to 1000"
+            format!("line 2: the order has 2 posts; a board has 3 to {MOST}")
         );
         assert_eq!(
             message(&format!("{t}order 0 1 2\n")),

@@ -1,15 +1,19 @@
 //! The board tool: a block from a readable text, and back.
 
 use outside::boards::{random, Kind};
+use outside::layout::MOST;
 use outside::rng::Rng;
 use outside::{paper, text};
 use std::io::{self, Read, Write};
 use std::process::ExitCode;
 
+/// The fewest posts of a board by chance.
+const FEWEST_BY_CHANCE: usize = 5;
+
 const USAGE: &str = "\
 board pack < TEXT > BLOCK     write a block from its text
 board show < BLOCK > TEXT     write a block's text (of a damaged one what can be read)
-board make POSTS [SEED]       write the block of a board by chance, of 5 to 1000 posts
+board make POSTS [SEED]       write the block of a board by chance
 
 The text of a board has a line `order ..` with the names in the order of
 fitting, and for each name a line `name: ..` with its neighbours
@@ -72,10 +76,10 @@ fn show() -> Result<ExitCode, String> {
 
 fn make(posts: &str, seed: &str) -> Result<ExitCode, String> {
     let posts = match posts.parse() {
-        Ok(posts @ 5..=1000) => posts,
+        Ok(posts @ FEWEST_BY_CHANCE..=MOST) => posts,
         _ => {
             return Err(format!(
-                "`{posts}` is not a number of posts from 5 to 1000\n"
+                "`{posts}` is not a number of posts from {FEWEST_BY_CHANCE} to {MOST}\n"
             ))
         }
     };
