@@ -22,8 +22,8 @@ use Rattle.lamp.specs.Lamp.{someName, entryFault, degreeFault, ringFault
 use Rattle.lamp.specs.Lamp.{entryRow, degreeRow, ringRow, triangleRow, outerRow, fewRow, brokenRow}
 use Rattle.lamp.specs.Lamp.{headerRows, sumRows, orderRows, degreeRows, ringRows, triangleRows, outerRows, positionRows, fittingRows}
 use Rattle.lamp.specs.Lamp.{Row, blockRows, checkRows}
-use Rattle.lamp.specs.Given.{NoneApplies}
-use Rattle.lamp.proofs.Given.{none-left, none-right, none-both}
+use Rattle.lamp.specs.Given.{accepted, checkReply, NoneApplies}
+use Rattle.lamp.proofs.Given.{given-says, accepted-is, none-left, none-right, none-both}
 use Rattle.lamp.proofs.Heads.{framed, framed-none}
 use Rattle.lamp.proofs.Loads.{order-length, totalled}
 
@@ -103,6 +103,19 @@ module _ (s : List ℕ) where
   pub none-framed : NoneApplies blockRows s → Framed s
   unfolding blockRows
   none-framed h = framed s (none-left (headerRows ++ sumRows) (orderRows ++ degreeRows ++ ringRows ++ triangleRows ++ outerRows) s h)
+
+  -- of an accepted block: none applies, and its n is answered
+  pub accepted-none : (n : ℕ) → checkReply s ≡ accepted n → NoneApplies (checkRows s) s
+  unfolding checkReply
+  accepted-none n e = given-says s posts (checkRows s) n e
+
+  pub accepted-posts : (n : ℕ) → checkReply s ≡ accepted n → n ≡ posts s
+  unfolding checkReply
+  accepted-posts n e = accepted-is s posts (checkRows s) n e
+
+  pub accepted-framed : (n : ℕ) → checkReply s ≡ accepted n → Framed s
+  unfolding checkRows
+  accepted-framed n e = none-framed (none-left blockRows (fittingRows s) s (accepted-none n e))
 
   -- what 12 and 13 say where they pass at position k
   pub none-position : (k : ℕ) → NoneApplies (positionRows k) s
