@@ -13,11 +13,11 @@ use Rattle.block.specs.Block.{posts, order, lists}
 use Rattle.rings.specs.Plane.{Reached}
 use Rattle.order.proofs.Growth.{Names}
 use Rattle.order.proofs.Sound.{Boarded, boarded-names, boarded-plane, passes-connected, passes-sound, sound-passes}
-use Rattle.lamp.specs.Lamp.{blockRows, orderRows}
+use Rattle.lamp.specs.Lamp.{blockRows, fittingRows}
 use Rattle.lamp.specs.Given.{NoneApplies}
-use Rattle.lamp.proofs.Sounds.{order-length}
-use Rattle.lamp.proofs.Accepts.{lists-count, none-boarded, none-framed, both-passes, passes-order}
-use Rattle.lamp.proofs.Retired.{paper-order, order-paper}
+use Rattle.lamp.proofs.Loads.{order-length}
+use Rattle.lamp.proofs.Accepts.{lists-count, none-boarded, none-framed, both-passes, passes-fitting}
+use Rattle.lamp.proofs.Retired.{paper-fitting, fitting-paper}
 use Rattle.growth.specs.Co.{Joined, CoOrder}
 use Rattle.growth.proofs.Named.{post-in}
 use Rattle.growth.proofs.Agree.{over-contour, by-wires}
@@ -49,16 +49,16 @@ module _ (s : List ℕ) (h : NoneApplies blockRows s) where
   N = boarded-names G vs B
 
   -- ---- from the rule
-  rule-connected : NoneApplies (orderRows s) s → Connected s
+  rule-connected : NoneApplies (fittingRows s) s → Connected s
   rule-connected r u l = passes-connected G vs (both-passes s h r) u (omega (arith, n))
 
-  rule-order : NoneApplies (orderRows s) s → CoOrder G vs
+  rule-order : NoneApplies (fittingRows s) s → CoOrder G vs
   rule-order r = let t = passes-sound G vs (both-passes s h r) in to-stages G vs (t .0) (t .1)
 
-  rule-co : NoneApplies (orderRows s) s → CoStages s
+  rule-co : NoneApplies (fittingRows s) s → CoStages s
   rule-co r k a b = rule-order r .co k (omega arith) (omega (arith, m))
 
-  rule-contours : NoneApplies (orderRows s) s → CoContours s
+  rule-contours : NoneApplies (fittingRows s) s → CoContours s
   rule-contours r k a b =
       over-contour G vs k _ (stage-contour-list G vs (both-passes s h r) k a (omega (arith, n))) (rule-order r .co k a (omega (arith, m)))
 
@@ -66,10 +66,10 @@ module _ (s : List ℕ) (h : NoneApplies blockRows s) where
   co-order : CoStages s → CoOrder G vs
   co-order c = record { all = N .all; below = N .below; once = once-different vs (N .once); co = λ k a b. c k (omega arith) (omega (arith, m)) }
 
-  co-rule : Connected s → CoStages s → NoneApplies (orderRows s) s
+  co-rule : Connected s → CoStages s → NoneApplies (fittingRows s) s
   co-rule c r =
       let P = boarded-plane G vs B (λ u l. c u (omega (arith, n))) in
-      passes-order s (sound-passes G vs (P, from-stages G vs P (co-order r))) least
+      passes-fitting s (sound-passes G vs (P, from-stages G vs P (co-order r))) least
 
   lists-co : CoLists s → CoStages s
   lists-co c k a b = let t = c k (omega arith) b in by-wires G vs k (t .0) (t .1)
@@ -100,7 +100,7 @@ module _ (s : List ℕ) (h : NoneApplies blockRows s) where
 pub same-rule : SameRule
 same-rule =
     record {
-      exactly = λ s h c. ((λ r. rule-co s h (order-paper s h r)), (λ r. paper-order s h (co-rule s h c r)));
+      exactly = λ s h c. ((λ r. rule-co s h (fitting-paper s h r)), (λ r. paper-fitting s h (co-rule s h c r)));
       without-14 = λ s h c. (rule-co s h, co-rule s h c);
       over-lists = λ s h c. ((λ r k a b. (_, rule-contours s h r k a b)), (λ r. co-rule s h c (lists-co s h r)));
       over-contours = λ s h c. (rule-contours s h, (λ r. co-rule s h c (lists-co s h (λ k a b. (_, r k a b)))));

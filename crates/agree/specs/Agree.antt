@@ -7,9 +7,9 @@ use Rattle.words.specs.Positions.{post}
 use Rattle.block.specs.Block.{posts, order, lists}
 use Rattle.rings.specs.Plane.{Reached}
 use Rattle.placing.specs.Stages.{stage}
-use Rattle.lamp.specs.Lamp.{blockRows, orderRows}
+use Rattle.lamp.specs.Lamp.{blockRows, fittingRows}
 use Rattle.lamp.specs.Given.{NoneApplies}
-use Rattle.lamp.specs.Retired.{paperOrderRows}
+use Rattle.lamp.specs.Retired.{paperFittingRows}
 use Rattle.growth.specs.Co.{Co, CoOver}
 
 -- every post can be reached from v1
@@ -31,11 +31,11 @@ CoContours s = (k : ℕ) → 3 ≤ k → k ≤ posts s → CoOver (lists s) (ord
 -- For connected blocks passing 1 to 11 the rule per position holds exactly when co1 to co3 hold at every stage: the paper's whole rule, with its
 -- later neighbour, and the rule as the table has it without.
 pub record SameRule : Type 0 where
-  pub exactly : (s : List ℕ) → NoneApplies blockRows s → Connected s → NoneApplies (paperOrderRows s) s ↔ CoStages s
-  pub without-14 : (s : List ℕ) → NoneApplies blockRows s → Connected s → NoneApplies (orderRows s) s ↔ CoStages s
+  pub exactly : (s : List ℕ) → NoneApplies blockRows s → Connected s → NoneApplies (paperFittingRows s) s ↔ CoStages s
+  pub without-14 : (s : List ℕ) → NoneApplies blockRows s → Connected s → NoneApplies (fittingRows s) s ↔ CoStages s
   -- And exactly when they hold written over contours, which are then those of the paper's stages.
-  pub over-lists : (s : List ℕ) → NoneApplies blockRows s → Connected s → NoneApplies (orderRows s) s ↔ CoLists s
-  pub over-contours : (s : List ℕ) → NoneApplies blockRows s → Connected s → NoneApplies (orderRows s) s ↔ CoContours s
+  pub over-lists : (s : List ℕ) → NoneApplies blockRows s → Connected s → NoneApplies (fittingRows s) s ↔ CoLists s
+  pub over-contours : (s : List ℕ) → NoneApplies blockRows s → Connected s → NoneApplies (fittingRows s) s ↔ CoContours s
   -- That a block is connected needs no test: the rule gives it, and so does co1 at stage n.
-  pub connected-by-rule : (s : List ℕ) → NoneApplies blockRows s → NoneApplies (orderRows s) s → Connected s
+  pub connected-by-rule : (s : List ℕ) → NoneApplies blockRows s → NoneApplies (fittingRows s) s → Connected s
   pub connected-by-co : (s : List ℕ) → NoneApplies blockRows s → CoStages s → Connected s

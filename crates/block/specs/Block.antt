@@ -54,6 +54,13 @@ pub record Framed (s : List ℕ) : Type 0 where
   pub size-right : length s ≡ size (posts s)
   pub sum-right : statedSum s ≡ earlierSum s
 
+-- n is the block's, its range is right, and the bytes are as many as it asks for
+pub record Headed (s : List ℕ) (n : ℕ) : Type 0 where
+  pub is : n ≡ posts s
+  pub least : 3 ≤ n
+  pub most : n ≤ limit
+  pub sized : length s ≡ size n
+
 -- ---- the tests of steps 2, 7 and 8
 
 unfoldable pub marked : List ℕ → Bool

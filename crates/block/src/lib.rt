@@ -6,7 +6,7 @@ ghost use lib.ListN.{length, getD, take};
 ghost use Rattle.words.specs.First.{first};
 ghost use Rattle.words.specs.Numbers.{sumOf};
 ghost use Rattle.block.specs.Layout.{limit, bias, degreesAt, listsAt, entries, sumAt, size};
-ghost use Rattle.block.specs.Block.{posts, order, degrees, marked, badEntry, badDegree};
+ghost use Rattle.block.specs.Block.{order, degrees, Headed, marked, badEntry, badDegree};
 
 // A block's number of posts, which fixes where its parts begin.
 pub struct Block {
@@ -166,7 +166,7 @@ fn no_marks() -> [u8; Block::LIMIT]
 
 // Step 7: vs becomes the order; the first position at fault, or n + 1.
 pub fn read_order(s: &[u8], b: Block, vs: &mut [u16]) -> usize
-    requires { ⌜ (b .n ≡ posts (now s)) × (b .n ≤ limit) × (3 ≤ b .n) × (length (now s) ≡ size (b .n)) × (limit ≤ length (now vs)) ⌝ }
+    requires { ⌜ Headed (now s) (b .n) × (limit ≤ length (now vs)) ⌝ }
     ensures { λ r. ⌜ (take (b .n) (now (vs .exit)) ≡ order (now (s .entry))) × (r ≡ first 1 (b .n) (badEntry (b .n) (order (now (s .entry))))) ⌝ }
 {
     let n = b.n;
@@ -177,7 +177,7 @@ pub fn read_order(s: &[u8], b: Block, vs: &mut [u16]) -> usize
 
 // Step 8, the degrees one by one: ds becomes the degrees; the lowest name at fault, or n.
 pub fn read_degrees(s: &[u8], b: Block, ds: &mut [u16]) -> usize
-    requires { ⌜ (b .n ≡ posts (now s)) × (b .n ≤ limit) × (3 ≤ b .n) × (length (now s) ≡ size (b .n)) × (limit ≤ length (now ds)) ⌝ }
+    requires { ⌜ Headed (now s) (b .n) × (limit ≤ length (now ds)) ⌝ }
     ensures { λ r. ⌜ (take (b .n) (now (ds .exit)) ≡ degrees (now (s .entry))) × (r ≡ first 0 (b .n) (badDegree (b .n) (degrees (now (s .entry))))) ⌝ }
 {
     let n = b.n;

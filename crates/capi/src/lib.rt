@@ -1,8 +1,8 @@
 // The services as C functions, for firmware and for tests: include/pgb.h declares them.
 ghost use mathlib.Core.Path.{_≡_};
-ghost use Rattle.lamp.specs.Given.{accepted, refused, checkReply};
+ghost use Rattle.lamp.specs.Given.{accepted, refused, replyOf, checkReply};
 ghost use Rattle.unit.specs.Replies.{sheetReply, bufferAfter, postReply};
-ghost use Rattle.lamp.specs.Refusals.{numberOf, placeOf, replyOf};
+ghost use Rattle.lamp.specs.Refusals.{numberOf, placeOf};
 ghost use Rattle.capi.specs.Codes.{refusalCode, codeOf, standingOf, firstOf, secondOf, postOf};
 use lamp::Answer;
 use lamp::Refusal;
@@ -24,9 +24,8 @@ pub struct PostReply {
 fn refusal_code(r: Refusal) -> u32
     ensures { λ c. ⌜ c ≡ refusalCode (numberOf r) (placeOf r) ⌝ }
 {
-    let n = r.number();
-    let p = r.place();
-    n as u32 * 65536 + p as u32
+    let t = r.told();
+    t.number as u32 * 65536 + t.place as u32
 }
 
 fn code(a: Answer) -> u32

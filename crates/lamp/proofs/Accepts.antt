@@ -5,25 +5,27 @@ use mathlib.Core.Bool.{true, false, not}
 use mathlib.Core.List.{List, [], _∷_, _++_, map, flatMap}
 use native.Mathlib.Omega.{arith}
 use native.Mathlib.Decide.{ℕ-discrete}
-use lib.Dec.{eqb}
 use lib.ListN.{length}
-use borrow.Author.Tests.{eq-eqb, eqb-true, not-false}
-use Rattle.words.specs.First.{numbers, some}
+use borrow.Author.Tests.{eq-eqb, not-false}
+use Rattle.words.specs.First.{numbers}
 use Rattle.words.specs.Numbers.{sumOf}
 use Rattle.words.specs.Positions.{post, earlier}
 use Rattle.words.proofs.First.{some-none, some-false}
 use Rattle.words.proofs.Numbers.{words-length}
 use Rattle.words.proofs.Tests.{neither}
 use Rattle.block.specs.Layout.{entries, listsAt}
-use Rattle.block.specs.Block.{posts, order, degrees, listsFrom, lists, badEntry, badDegree, Framed}
+use Rattle.block.specs.Block.{posts, order, degrees, listsFrom, lists, Framed}
 use Rattle.rings.specs.Rings.{ringRule, triangleRule, outerRule}
 use Rattle.order.specs.Order.{twoPlaced, oneRun}
 use Rattle.order.proofs.Sound.{Boarded, Passes}
-use Rattle.lamp.specs.Lamp.{Row, blockRows, positionRows, orderRows, checkRows, ringFault, triangleFault}
-use Rattle.lamp.specs.Given.{NoneApplies}
-use Rattle.lamp.specs.Held.{headRows, listRows, ringRows}
+use Rattle.lamp.specs.Lamp.{someName, entryFault, degreeFault, ringFault, triangleFault}
+use Rattle.lamp.specs.Lamp.{entryRow, degreeRow, ringRow, triangleRow, outerRow, fewRow, brokenRow}
+use Rattle.lamp.specs.Lamp.{headerRows, sumRows, orderRows, degreeRows, ringRows, triangleRows, outerRows, positionRows, fittingRows}
+use Rattle.lamp.specs.Lamp.{Row, blockRows, checkRows}
+use Rattle.lamp.specs.Given.{accepted, checkReply, NoneApplies}
+use Rattle.lamp.proofs.Given.{given-says, accepted-is, none-left, none-right, none-both}
 use Rattle.lamp.proofs.Heads.{framed, framed-none}
-use Rattle.lamp.proofs.Sounds.{order-length}
+use Rattle.lamp.proofs.Loads.{order-length, totalled}
 
 -- ---- the lists are as long as the degrees say
 
@@ -46,36 +48,30 @@ module _ (s : List ℕ) where
   unfolding lists degrees
   lists-count = from-count s (listsAt (posts s)) (degrees s) ∙ words-length s (posts s) _
 
--- ---- rows in parts
+-- ---- the rule per position
 
-pub none-left : (a b : List Row) (s : List ℕ) → NoneApplies (a ++ b) s → NoneApplies a s
-none-left [] b s h = tt
-none-left (r ∷ a) b s h = (h .0, none-left a b s (h .1))
-
-pub none-right : (a b : List Row) (s : List ℕ) → NoneApplies (a ++ b) s → NoneApplies b s
-none-right [] b s h = h
-none-right (r ∷ a) b s h = none-right a b s (h .1)
-
-pub none-both : (a b : List Row) (s : List ℕ) → NoneApplies a s → NoneApplies b s → NoneApplies (a ++ b) s
-none-both [] b s h k = k
-none-both (r ∷ a) b s h k = (h .0, none-both a b s (h .1) k)
-
-at-positions : (s : List ℕ) (m k j : ℕ) → NoneApplies (flatMap positionRows (numbers k m)) s → k ≤ j → j < k + m → NoneApplies (positionRows j) s
+at-positions : (s : List ℕ) (m k j : ℕ) → NoneApplies (flatMap positionRows (numbers k m)) s → k ≤ j → j < k + m
+    → NoneApplies (positionRows j) s
 unfolding flatMap numbers
 at-positions s zero k j h a b = absurd (omega arith)
 at-positions s (suc m) k j h a b = go (ℕ-discrete k j) (at-positions s m (suc k) j)
   where
-    go : Dec (k ≡ j) → (NoneApplies (flatMap positionRows (numbers (suc k) m)) s → suc k ≤ j → j < suc k + m → NoneApplies (positionRows j) s) → NoneApplies (positionRows j) s
-    go (yes e) rec = subst (λ (i : ℕ). NoneApplies (positionRows i) s) e (none-left (positionRows k) (flatMap positionRows (numbers (suc k) m)) s h)
-    go (no n) rec = rec (none-right (positionRows k) (flatMap positionRows (numbers (suc k) m)) s h) (omega arith) (omega arith)
+    others : List Row
+    others = flatMap positionRows (numbers (suc k) m)
 
-all-positions : (s : List ℕ) (m k : ℕ) → ((j : ℕ) → k ≤ j → j < k + m → NoneApplies (positionRows j) s) → NoneApplies (flatMap positionRows (numbers k m)) s
+    go : Dec (k ≡ j) → (NoneApplies others s → suc k ≤ j → j < suc k + m → NoneApplies (positionRows j) s) → NoneApplies (positionRows j) s
+    go (yes e) rec = subst (λ (i : ℕ). NoneApplies (positionRows i) s) e (none-left (positionRows k) others s h)
+    go (no n) rec = rec (none-right (positionRows k) others s h) (omega arith) (omega arith)
+
+all-positions : (s : List ℕ) (m k : ℕ) → ((j : ℕ) → k ≤ j → j < k + m → NoneApplies (positionRows j) s)
+    → NoneApplies (flatMap positionRows (numbers k m)) s
 unfolding flatMap numbers
 all-positions s zero k f = tt
 all-positions s (suc m) k f =
-    none-both (positionRows k) (flatMap positionRows (numbers (suc k) m)) s (f k (omega arith) (omega arith)) (all-positions s m (suc k) (λ j a b. f j (omega arith) (omega arith)))
+    none-both (positionRows k) (flatMap positionRows (numbers (suc k) m)) s (f k (omega arith) (omega arith))
+    (all-positions s m (suc k) (λ j a b. f j (omega arith) (omega arith)))
 
--- ---- steps 7 to 13
+-- ---- the board
 
 module _ (s : List ℕ) where
   abbrev G : List (List ℕ)
@@ -84,35 +80,54 @@ module _ (s : List ℕ) where
   abbrev vs : List ℕ
   vs = order s
 
-  -- rows 1 to 11 pass
   pub none-boarded : NoneApplies blockRows s → Boarded (lists s) (order s)
   unfolding blockRows
   none-boarded h =
       let n = lists-count s in
-      let r = h .1 .1 .1 .1 .1 .1 in
-      let d = neither (some 0 (posts s) (badDegree (posts s) (degrees s))) _ (r .1 .0) in
+      let entry : entryRow .when s ≡ false = search in
+      let degree : degreeRow .when s ≡ false = search in
+      let ring : ringRow .when s ≡ false = search in
+      let triangle : triangleRow .when s ≡ false = search in
+      let outer : outerRow .when s ≡ false = search in
+      let d = neither (someName degreeFault s) _ degree in
       record {
         all = order-length s ∙ sym n;
-        entries = λ k a b. rw n (some-none (badEntry (posts s) (order s)) 1 (posts s) (r .0) k a (omega (arith, n)));
-        degrees = λ u a. rw (n, lists-degrees s) (some-none (badDegree (posts s) (degrees s)) 0 (posts s) (d .0) u (omega arith) (omega (arith, n)));
-        total =
-            rw (lists-degrees s, n) (eqb-true (sumOf (degrees s)) (entries (posts s)) (not-false (eqb (sumOf (degrees s)) (entries (posts s))) (d .1)));
-        rings = λ u a. not-false (ringRule G u) (some-none (ringFault s) 0 (posts s) (r .1 .1 .0) u (omega arith) (omega (arith, n)));
-        triangles = λ u a. not-false (triangleRule G u) (some-none (triangleFault s) 0 (posts s) (r .1 .1 .1 .0) u (omega arith) (omega (arith, n)));
-        outer = rw n (not-false (outerRule G (post vs 1) (post vs 2) (post vs (posts s))) (r .1 .1 .1 .1 .0));
+        entries = λ k a b. rw n (some-none (entryFault s) 1 (posts s) entry k a (omega (arith, n)));
+        degrees = λ u a. rw (n, lists-degrees s) (some-none (degreeFault s) 0 (posts s) (d .0) u (omega arith) (omega (arith, n)));
+        total = rw (lists-degrees s, n) (totalled s (degree, tt));
+        rings = λ u a. not-false (ringRule G u) (some-none (ringFault s) 0 (posts s) ring u (omega arith) (omega (arith, n)));
+        triangles = λ u a. not-false (triangleRule G u) (some-none (triangleFault s) 0 (posts s) triangle u (omega arith) (omega (arith, n)));
+        outer = rw n (not-false (outerRule G (post vs 1) (post vs 2) (post vs (posts s))) outer);
       }
 
   pub none-framed : NoneApplies blockRows s → Framed s
   unfolding blockRows
-  none-framed h = framed s (none-left headRows (listRows ++ ringRows) s h)
+  none-framed h = framed s (none-left (headerRows ++ sumRows) (orderRows ++ degreeRows ++ ringRows ++ triangleRows ++ outerRows) s h)
+
+  -- of an accepted block: none applies, and its n is answered
+  pub accepted-none : (n : ℕ) → checkReply s ≡ accepted n → NoneApplies (checkRows s) s
+  unfolding checkReply
+  accepted-none n e = given-says s posts (checkRows s) n e
+
+  pub accepted-posts : (n : ℕ) → checkReply s ≡ accepted n → n ≡ posts s
+  unfolding checkReply
+  accepted-posts n e = accepted-is s posts (checkRows s) n e
+
+  pub accepted-framed : (n : ℕ) → checkReply s ≡ accepted n → Framed s
+  unfolding checkRows
+  accepted-framed n e = none-framed (none-left blockRows (fittingRows s) s (accepted-none n e))
 
   -- what 12 and 13 say where they pass at position k
-  pub none-position : (k : ℕ) → NoneApplies (positionRows k) s → (twoPlaced G (earlier vs k) (post vs k) ≡ true) × (oneRun G (earlier vs k) (post vs k) ≡ true)
+  pub none-position : (k : ℕ) → NoneApplies (positionRows k) s
+      → (twoPlaced G (earlier vs k) (post vs k) ≡ true) × (oneRun G (earlier vs k) (post vs k) ≡ true)
   unfolding positionRows
-  none-position k h = (not-false (twoPlaced G (earlier vs k) (post vs k)) (h .0), not-false (oneRun G (earlier vs k) (post vs k)) (h .1 .0))
+  none-position k h =
+      let few : fewRow k .when s ≡ false = search in
+      let broken : brokenRow k .when s ≡ false = search in
+      (not-false (twoPlaced G (earlier vs k) (post vs k)) few, not-false (oneRun G (earlier vs k) (post vs k)) broken)
 
   -- the rule per position passes too
-  pub both-passes : NoneApplies blockRows s → NoneApplies (orderRows s) s → Passes (lists s) (order s)
+  pub both-passes : NoneApplies blockRows s → NoneApplies (fittingRows s) s → Passes (lists s) (order s)
   both-passes h r =
       let n = lists-count s in
       let q = at-positions s (posts s - 2) 3 in
@@ -124,7 +139,7 @@ module _ (s : List ℕ) where
 
   pub none-passes : NoneApplies (checkRows s) s → Passes (lists s) (order s)
   unfolding checkRows
-  none-passes h = both-passes (none-left blockRows (orderRows s) s h) (none-right blockRows (orderRows s) s h)
+  none-passes h = both-passes (none-left blockRows (fittingRows s) s h) (none-right blockRows (fittingRows s) s h)
 
   module _ (P : Passes (lists s) (order s)) where
     n-is : length (lists s) ≡ posts s
@@ -133,35 +148,37 @@ module _ (s : List ℕ) where
     abbrev B : Boarded (lists s) (order s)
     B = P .board
 
-    degrees-fine : some 0 (posts s) (badDegree (posts s) (degrees s)) ≡ false
-    degrees-fine =
-        some-false (badDegree (posts s) (degrees s)) 0 (posts s) (λ u a b. rw (n-is, lists-degrees s) at (B .degrees u (omega (arith, n-is))))
+    no-entry : entryRow .when s ≡ false
+    no-entry = some-false (entryFault s) 1 (posts s) (λ k a b. rw n-is at (B .entries k a (omega (arith, n-is))))
 
-    total-fine : sumOf (degrees s) ≡ entries (posts s)
-    total-fine = rw (lists-degrees s, n-is) at (B .total)
+    no-degree : degreeRow .when s ≡ false
+    no-degree =
+        let each = some-false (degreeFault s) 0 (posts s) (λ u a b. rw (n-is, lists-degrees s) at (B .degrees u (omega (arith, n-is)))) in
+        let total : sumOf (degrees s) ≡ entries (posts s) = rw (lists-degrees s, n-is) at (B .total) in
+        rw (each, eq-eqb (sumOf (degrees s)) (entries (posts s)) total) refl
 
-    block-none : NoneApplies (listRows ++ ringRows) s
-    unfolding blockRows
-    block-none = (
-      some-false (badEntry (posts s) (order s)) 1 (posts s) (λ k a b. rw n-is at (B .entries k a (omega (arith, n-is)))),
-      (
-        rw (degrees-fine, eq-eqb (sumOf (degrees s)) (entries (posts s)) total-fine) refl,
-        (
-          some-false (ringFault s) 0 (posts s) (λ u a b. ap not (B .rings u (omega (arith, n-is)))),
-          (some-false (triangleFault s) 0 (posts s) (λ u a b. ap not (B .triangles u (omega (arith, n-is)))), (ap not (rw n-is at (B .outer)), tt)),
-        ),
-      ),
-    )
+    no-ring : ringRow .when s ≡ false
+    no-ring = some-false (ringFault s) 0 (posts s) (λ u a b. ap not (B .rings u (omega (arith, n-is))))
+
+    no-triangle : triangleRow .when s ≡ false
+    no-triangle = some-false (triangleFault s) 0 (posts s) (λ u a b. ap not (B .triangles u (omega (arith, n-is))))
+
+    no-outer : outerRow .when s ≡ false
+    no-outer = ap not (rw n-is at (B .outer))
 
     position-none : (k : ℕ) → 3 ≤ k → k ≤ posts s → NoneApplies (positionRows k) s
     unfolding positionRows
     position-none k a b = (ap not (P .two k a (omega (arith, n-is))), (ap not (P .run k a (omega (arith, n-is))), tt))
 
-    pub passes-order : 3 ≤ posts s → NoneApplies (orderRows s) s
-    passes-order least = all-positions s (posts s - 2) 3 (λ j a b. position-none j a (omega arith))
+    pub passes-fitting : 3 ≤ posts s → NoneApplies (fittingRows s) s
+    passes-fitting least = all-positions s (posts s - 2) 3 (λ j a b. position-none j a (omega arith))
+
+    block-none : Framed s → NoneApplies blockRows s
+    unfolding blockRows
+    block-none F =
+        none-both (headerRows ++ sumRows) (orderRows ++ degreeRows ++ ringRows ++ triangleRows ++ outerRows) s (framed-none s F)
+        (no-entry, (no-degree, (no-ring, (no-triangle, (no-outer, tt)))))
 
     pub passes-none : Framed s → NoneApplies (checkRows s) s
-    unfolding checkRows blockRows
-    passes-none F =
-        none-both headRows (listRows ++ ringRows ++ orderRows s) s (framed-none s F)
-        (none-both (listRows ++ ringRows) (orderRows s) s block-none (passes-order (F .posts-least)))
+    unfolding checkRows
+    passes-none F = none-both blockRows (fittingRows s) s (block-none F) (passes-fitting (F .posts-least))

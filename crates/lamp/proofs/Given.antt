@@ -26,16 +26,24 @@ module _ {A : Type 0} (s : List ℕ) (answer : List ℕ → A) where
   given-past [] rest h = refl
   given-past (r ∷ rows) rest h = given-skip r (rows ++ rest) (h .0) ∙ given-past rows rest (h .1)
 
+  -- none before applies, this one does: it is given
+  pub given-first : (before : List Row) (r : Row) (after : List Row) → NoneApplies before s → r .when s ≡ true
+      → given (before ++ r ∷ after) s answer ≡ refused (r .number) (r .place s)
+  given-first before r after none applies = given-past before (r ∷ after) none ∙ given-stop r after applies
+
   -- rests that are given alike where the rows before them pass
-  pub given-alike : (rows b c : List Row) → (NoneApplies rows s → given b s answer ≡ given c s answer) → given (rows ++ b) s answer ≡ given (rows ++ c) s answer
+  pub given-alike : (rows b c : List Row) → (NoneApplies rows s → given b s answer ≡ given c s answer)
+      → given (rows ++ b) s answer ≡ given (rows ++ c) s answer
   given-alike [] b c f = f tt
   given-alike (r ∷ rows) b c f = go (r .when s) refl (given-alike rows b c)
     where
-      go : (t : Bool) → r .when s ≡ t → ((NoneApplies rows s → given b s answer ≡ given c s answer) → given (rows ++ b) s answer ≡ given (rows ++ c) s answer)
+      go : (t : Bool) → r .when s ≡ t
+          → ((NoneApplies rows s → given b s answer ≡ given c s answer) → given (rows ++ b) s answer ≡ given (rows ++ c) s answer)
           → given (r ∷ rows ++ b) s answer ≡ given (r ∷ rows ++ c) s answer
       go true e k = given-stop r (rows ++ b) e ∙ sym (given-stop r (rows ++ c) e)
       go false e k = given-skip r (rows ++ b) e ∙ k (λ h. f (e, h)) ∙ sym (given-skip r (rows ++ c) e)
 
+  -- none of a group applies
   pub given-none : (rows : List Row) → NoneApplies rows s → given rows s answer ≡ accepted (answer s)
   given-none rows h = ap (λ (l : List Row). given l s answer) (sym (append-nil rows)) ∙ given-past rows [] h ∙ given-end
 
@@ -56,7 +64,7 @@ module _ {A : Type 0} (s : List ℕ) (answer : List ℕ → A) where
 pub fixed-given : {A : Type 0} (rows : List Row) (s : List ℕ) (answer : List ℕ → A) {r : Reply A} → Fixed rows s (answer s) r → r ≡ given rows s answer
 fixed-given rows s answer (accepts h) = sym (given-none s answer rows h)
 fixed-given rows s answer (refuses before q after is none t) =
-    sym (ap (λ (l : List Row). given l s answer) is ∙ given-past s answer before (q ∷ after) none ∙ given-stop s answer q after t)
+    sym (ap (λ (l : List Row). given l s answer) is ∙ given-first s answer before q after none t)
 
 pub fixed-one : {A : Type 0} (rows : List Row) (s : List ℕ) (a : A) (r q : Reply A) → Fixed rows s a r → Fixed rows s a q → r ≡ q
 fixed-one rows s a r q F G = fixed-given rows s (λ z. a) F ∙ sym (fixed-given rows s (λ z. a) G)
@@ -70,12 +78,17 @@ module _ {A : Type 0} (s : List ℕ) (answer : List ℕ → A) where
       go (accepts h) q = h
       go (refuses before t after is none w) q = absurd (let z : _≡_ {A = ℕ} 0 1 = cc in omega arith)
 
+  pub accepted-is : (rows : List Row) (a : A) → given rows s answer ≡ accepted a → a ≡ answer s
+  accepted-is rows a e = let z = given-none s answer rows (given-says rows a e) in cc
+
   -- a refusal of the first part is the refusal of the whole
-  pub given-refused : (rows rest : List Row) (number place : ℕ) → given rows s answer ≡ refused number place → given (rows ++ rest) s answer ≡ refused number place
+  pub given-refused : (rows rest : List Row) (number place : ℕ) → given rows s answer ≡ refused number place
+      → given (rows ++ rest) s answer ≡ refused number place
   given-refused [] rest number place e = absurd (let f = given-end s answer in let z : _≡_ {A = ℕ} 0 1 = cc in omega arith)
   given-refused (r ∷ rows) rest number place e = go (r .when s) refl (given-refused rows rest number place)
     where
-      go : (b : Bool) → r .when s ≡ b → (given rows s answer ≡ refused number place → given (rows ++ rest) s answer ≡ refused number place) → given (r ∷ rows ++ rest) s answer ≡ refused number place
+      go : (b : Bool) → r .when s ≡ b → (given rows s answer ≡ refused number place → given (rows ++ rest) s answer ≡ refused number place)
+          → given (r ∷ rows ++ rest) s answer ≡ refused number place
       go true w k = given-stop s answer r (rows ++ rest) w ∙ sym (given-stop s answer r rows w) ∙ e
       go false w k = given-skip s answer r (rows ++ rest) w ∙ k (sym (given-skip s answer r rows w) ∙ e)
 
@@ -84,14 +97,29 @@ pub not-both : {A P : Type 0} {number place : ℕ} {a : A} → refused number pl
 not-both e = absurd (let z : _≡_ {A = ℕ} 0 1 = cc in omega arith)
 
 -- a refusal does not depend on what would have been answered
-pub refused-any : {A B : Type 0} (s : List ℕ) (f : List ℕ → A) (g : List ℕ → B) (rows : List Row) (number place : ℕ) → given rows s f ≡ refused number place → given rows s g ≡ refused number place
+pub refused-any : {A B : Type 0} (s : List ℕ) (f : List ℕ → A) (g : List ℕ → B) (rows : List Row) (number place : ℕ)
+    → given rows s f ≡ refused number place → given rows s g ≡ refused number place
 refused-any s f g [] number place e = not-both (sym e ∙ given-end s f)
 refused-any s f g (r ∷ rows) number place e = go (r .when s) refl (refused-any s f g rows number place)
   where
-    go : (b : Bool) → r .when s ≡ b → (given rows s f ≡ refused number place → given rows s g ≡ refused number place) → given (r ∷ rows) s g ≡ refused number place
+    go : (b : Bool) → r .when s ≡ b → (given rows s f ≡ refused number place → given rows s g ≡ refused number place)
+        → given (r ∷ rows) s g ≡ refused number place
     go true w k =
         let e1 = sym (given-stop s f r rows w) ∙ e in
         let p : r .number ≡ number = cc in
         let q : r .place s ≡ place = cc in
         given-stop s g r rows w ∙ rw (p, q) refl
     go false w k = given-skip s g r rows w ∙ k (sym (given-skip s f r rows w) ∙ e)
+
+-- ---- rows in groups
+pub none-left : (a b : List Row) (s : List ℕ) → NoneApplies (a ++ b) s → NoneApplies a s
+none-left [] b s h = tt
+none-left (r ∷ a) b s h = (h .0, none-left a b s (h .1))
+
+pub none-right : (a b : List Row) (s : List ℕ) → NoneApplies (a ++ b) s → NoneApplies b s
+none-right [] b s h = h
+none-right (r ∷ a) b s h = none-right a b s (h .1)
+
+pub none-both : (a b : List Row) (s : List ℕ) → NoneApplies a s → NoneApplies b s → NoneApplies (a ++ b) s
+none-both [] b s h k = k
+none-both (r ∷ a) b s h k = (h .0, none-both a b s (h .1) k)

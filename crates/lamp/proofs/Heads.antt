@@ -1,8 +1,8 @@
--- Steps 1 to 6, by what the code compared; and what their passing means.
+-- The header's groups, by what the code compared; and what their passing means.
 use Prim.Native.Nat.{ℕ, _≤_, _<_}
 use mathlib.Core.Path.{_≡_, refl, sym, ap, _∙_}
 use mathlib.Core.Bool.{Bool, true, false, not, _&&_, _||_, true≢false}
-use mathlib.Core.List.{List, [], _∷_}
+use mathlib.Core.List.{List, [], _∷_, _++_}
 use native.Mathlib.Omega.{arith}
 use lib.Dec.{ltb, eqb}
 use lib.ListN.{length, getD, take}
@@ -10,11 +10,13 @@ use lib.Seq.{getD-take}
 use borrow.Author.Tests.{lt-ltb, le-ltb, eq-eqb, ne-eqb, ltb-false, eqb-true, not-false}
 use Rattle.words.proofs.Tests.{neither}
 use Rattle.block.specs.Layout.{limit, size}
-use Rattle.block.specs.Block.{mark, version, posts, statedSum, earlierSum, marked, Framed}
-use Rattle.lamp.specs.Lamp.{blockRows}
-use Rattle.lamp.specs.Given.{accepted, refused, given, NoneApplies}
-use Rattle.lamp.specs.Held.{headRows, Headed}
-use Rattle.lamp.proofs.Given.{given-end, given-skip, given-stop, given-none, given-says}
+use Rattle.block.specs.Block.{mark, version, posts, statedSum, earlierSum, marked, Framed, Headed}
+use Rattle.lamp.specs.Lamp.{shortRow, markRow, versionRow, postsRow, lengthRow, sumRow, openingRows, sizeRows, headerRows, sumRows}
+use Rattle.lamp.specs.Given.{accepted, replyOf, given, NoneApplies}
+use Rattle.lamp.specs.declared.Refusal.the-variants.{Short, Mark, Version, Posts, Length, Sum}
+use Rattle.lamp.specs.declared.Answer.the-variants.{Refused}
+use Rattle.lamp.proofs.Given.{given-first, none-left, none-right}
+use Rattle.lamp.proofs.Steps.{passes}
 
 both-true : (x y : Bool) → x && y ≡ true → (x ≡ true) × (y ≡ true)
 both-true true y e = (refl, e)
@@ -37,102 +39,99 @@ letter s i h e = sym (getD-take 3 s i 0 h) ∙ ap (λ (l : List ℕ). getD l i 0
 is-marked : (s : List ℕ) → take 3 s ≡ mark → marked s ≡ true
 unfolding marked
 is-marked s e =
-    rw (eq-eqb (getD s 0 0) 0x50 (letter s 0 (omega arith) e), eq-eqb (getD s 1 0) 0x47 (letter s 1 (omega arith) e), eq-eqb (getD s 2 0) 0x42 (letter s 2 (omega arith) e)) refl
+    let a = eq-eqb (getD s 0 0) 0x50 (letter s 0 (omega arith) e) in
+    let b = eq-eqb (getD s 1 0) 0x47 (letter s 1 (omega arith) e) in
+    let c = eq-eqb (getD s 2 0) 0x42 (letter s 2 (omega arith) e) in
+    rw (a, b, c) refl
 
 module _ (s : List ℕ) where
-  pub head-short : length s < 7 → refused 1 0 ≡ given headRows s posts
-  unfolding blockRows
-  head-short h = sym (given-stop s posts _ _ (lt-ltb (length s) 7 h))
+  -- ---- the opening
+
+  pub short : length s < 7 → replyOf (Refused Short) ≡ given openingRows s posts
+  short h = sym (given-first s posts [] shortRow (markRow ∷ versionRow ∷ []) tt (lt-ltb (length s) 7 h))
 
   module _ (long : 7 ≤ length s) where
-    r1 : ltb (length s) 7 ≡ false
-    r1 = le-ltb (length s) 7 long
+    not-short : shortRow .when s ≡ false
+    not-short = le-ltb (length s) 7 long
 
-    pub head-mark : marked s ≡ false → refused 2 0 ≡ given headRows s posts
-    unfolding blockRows
-    head-mark m = sym (given-skip s posts _ _ r1 ∙ given-stop s posts _ _ (ap not m))
+    pub unmarked : marked s ≡ false → replyOf (Refused Mark) ≡ given openingRows s posts
+    unmarked m = sym (given-first s posts (shortRow ∷ []) markRow (versionRow ∷ []) (not-short, tt) (ap not m))
 
     module _ (mark : marked s ≡ true) where
-      pub head-version : (version s ≡ 1 → ⊥) → refused 3 0 ≡ given headRows s posts
-      unfolding blockRows
-      head-version v = sym (given-skip s posts _ _ r1 ∙ given-skip s posts _ _ (ap not mark) ∙ given-stop s posts _ _ (ap not (ne-eqb (version s) 1 v)))
+      pub other-version : (version s ≡ 1 → ⊥) → replyOf (Refused Version) ≡ given openingRows s posts
+      other-version v =
+          sym (given-first s posts (shortRow ∷ markRow ∷ []) versionRow [] (not-short, (ap not mark, tt)) (ap not (ne-eqb (version s) 1 v)))
 
-      module _ (one : version s ≡ 1) where
-        r3 : not (eqb (version s) 1) ≡ false
-        r3 = ap not (eq-eqb (version s) 1 one)
+      pub opening-fine : version s ≡ 1 → NoneApplies openingRows s
+      opening-fine one = (not-short, (ap not mark, (ap not (eq-eqb (version s) 1 one), tt)))
 
-        pub head-few : posts s < 3 → refused 4 0 ≡ given headRows s posts
-        unfolding blockRows
-        head-few h = sym (given-skip s posts _ _ r1 ∙ given-skip s posts _ _ (ap not mark) ∙ given-skip s posts _ _ r3 ∙ given-stop s posts _ _ (rw (lt-ltb (posts s) 3 h) refl))
+  -- ---- the size
 
-        module _ (least : 3 ≤ posts s) where
-          pub head-many : limit < posts s → refused 4 0 ≡ given headRows s posts
-          unfolding blockRows
-          head-many h =
-              sym (given-skip s posts _ _ r1 ∙ given-skip s posts _ _ (ap not mark) ∙ given-skip s posts _ _ r3 ∙ given-stop s posts _ _ (rw (le-ltb (posts s) 3 least, lt-ltb limit (posts s) h) refl))
+  pub few-posts : posts s < 3 → replyOf (Refused Posts) ≡ given sizeRows s posts
+  few-posts h = sym (given-first s posts [] postsRow (lengthRow ∷ []) tt (rw (lt-ltb (posts s) 3 h) refl))
 
-          module _ (most : posts s ≤ limit) where
-            r4 : ltb (posts s) 3 || ltb limit (posts s) ≡ false
-            r4 = rw (le-ltb (posts s) 3 least, le-ltb limit (posts s) most) refl
+  module _ (least : 3 ≤ posts s) where
+    pub many-posts : limit < posts s → replyOf (Refused Posts) ≡ given sizeRows s posts
+    many-posts h = sym (given-first s posts [] postsRow (lengthRow ∷ []) tt (rw (le-ltb (posts s) 3 least, lt-ltb limit (posts s) h) refl))
 
-            pub head-length : (length s ≡ size (posts s) → ⊥) → refused 5 0 ≡ given headRows s posts
-            unfolding blockRows
-            head-length h =
-                sym (given-skip s posts _ _ r1 ∙ given-skip s posts _ _ (ap not mark) ∙ given-skip s posts _ _ r3 ∙ given-skip s posts _ _ r4 ∙ given-stop s posts _ _ (ap not (ne-eqb (length s) (size (posts s)) h)))
+    module _ (most : posts s ≤ limit) where
+      in-range : postsRow .when s ≡ false
+      in-range = rw (le-ltb (posts s) 3 least, le-ltb limit (posts s) most) refl
 
-            module _ (sized : length s ≡ size (posts s)) where
-              r5 : not (eqb (length s) (size (posts s))) ≡ false
-              r5 = ap not (eq-eqb (length s) (size (posts s)) sized)
+      pub other-length : (length s ≡ size (posts s) → ⊥) → replyOf (Refused Length) ≡ given sizeRows s posts
+      other-length h = sym (given-first s posts (postsRow ∷ []) lengthRow [] (in-range, tt) (ap not (ne-eqb (length s) (size (posts s)) h)))
 
-              pub head-sum : (statedSum s ≡ earlierSum s → ⊥) → refused 6 0 ≡ given headRows s posts
-              unfolding blockRows
-              head-sum h =
-                  sym (given-skip s posts _ _ r1 ∙ given-skip s posts _ _ (ap not mark) ∙ given-skip s posts _ _ r3 ∙ given-skip s posts _ _ r4 ∙ given-skip s posts _ _ r5 ∙ given-stop s posts _ _ (ap not (ne-eqb (statedSum s) (earlierSum s) h)))
+      pub size-fine : length s ≡ size (posts s) → NoneApplies sizeRows s
+      size-fine sized = (in-range, (ap not (eq-eqb (length s) (size (posts s)) sized), tt))
 
-              pub head-fine : statedSum s ≡ earlierSum s → accepted (posts s) ≡ given headRows s posts
-              unfolding blockRows
-              head-fine h =
-                  sym (given-skip s posts _ _ r1 ∙ given-skip s posts _ _ (ap not mark) ∙ given-skip s posts _ _ r3 ∙ given-skip s posts _ _ r4 ∙ given-skip s posts _ _ r5 ∙ given-skip s posts _ _ (ap not (eq-eqb (statedSum s) (earlierSum s) h)) ∙ given-end s posts)
-
-  -- where steps 1 to 6 pass, the mark, version, size and sum are right
-  pub framed : NoneApplies headRows s → Framed s
-  unfolding blockRows
-  framed h =
-      let long = ltb-false (length s) 7 (h .0) in
-      let p = neither (ltb (posts s) 3) (ltb limit (posts s)) (h .1 .1 .1 .0) in
+  pub headed : (n : ℕ) → n ≡ posts s → NoneApplies sizeRows s → Headed s n
+  headed n is h =
+      let range = neither (ltb (posts s) 3) (ltb limit (posts s)) (h .0) in
+      let all : lengthRow .when s ≡ false = search in
+      let sized = eqb-true (length s) (size (posts s)) (not-false (eqb (length s) (size (posts s))) all) in
       record {
-        mark-right = mark-is s long (not-false (marked s) (h .1 .0));
-        version-right = eqb-true (version s) 1 (not-false (eqb (version s) 1) (h .1 .1 .0));
-        posts-least = ltb-false (posts s) 3 (p .0);
-        posts-most = ltb-false limit (posts s) (p .1);
-        size-right = eqb-true (length s) (size (posts s)) (not-false (eqb (length s) (size (posts s))) (h .1 .1 .1 .1 .0));
-        sum-right = eqb-true (statedSum s) (earlierSum s) (not-false (eqb (statedSum s) (earlierSum s)) (h .1 .1 .1 .1 .1 .0));
+        is = is;
+        least = omega (arith, ltb-false (posts s) 3 (range .0), is);
+        most = omega (arith, ltb-false limit (posts s) (range .1), is);
+        sized = sized ∙ ap size (sym is);
       }
 
-  pub headed : (n : ℕ) → given headRows s posts ≡ accepted n → Headed s n
-  headed n e =
-      let h = given-says s posts headRows n e in
-      let F = framed h in
-      let q : n ≡ posts s = let z = given-none s posts headRows h in cc in
-      record { is = q; least = omega (arith, F .posts-least, q); most = omega (arith, F .posts-most, q); sized = F .size-right ∙ ap size (sym q) }
+  -- ---- the sum
+
+  pub other-sum : (statedSum s ≡ earlierSum s → ⊥) → replyOf (Refused Sum) ≡ given sumRows s posts
+  other-sum h = sym (given-first s posts [] sumRow [] tt (ap not (ne-eqb (statedSum s) (earlierSum s) h)))
+
+  pub sum-fine : statedSum s ≡ earlierSum s → NoneApplies sumRows s
+  sum-fine h = (ap not (eq-eqb (statedSum s) (earlierSum s) h), tt)
+
+  -- ---- where all pass, the mark, version, size and sum are right
+
+  pub framed : NoneApplies (headerRows ++ sumRows) s → Framed s
+  framed h =
+      let long : shortRow .when s ≡ false = search in
+      let marks : markRow .when s ≡ false = search in
+      let one : versionRow .when s ≡ false = search in
+      let range : postsRow .when s ≡ false = search in
+      let all : lengthRow .when s ≡ false = search in
+      let sum : sumRow .when s ≡ false = search in
+      let r = neither (ltb (posts s) 3) (ltb limit (posts s)) range in
+      record {
+        mark-right = mark-is s (ltb-false (length s) 7 long) (not-false (marked s) marks);
+        version-right = eqb-true (version s) 1 (not-false (eqb (version s) 1) one);
+        posts-least = ltb-false (posts s) 3 (r .0);
+        posts-most = ltb-false limit (posts s) (r .1);
+        size-right = eqb-true (length s) (size (posts s)) (not-false (eqb (length s) (size (posts s))) all);
+        sum-right = eqb-true (statedSum s) (earlierSum s) (not-false (eqb (statedSum s) (earlierSum s)) sum);
+      }
+
+  pub framed-headed : (n : ℕ) → n ≡ posts s → NoneApplies (headerRows ++ sumRows) s → Headed s n
+  framed-headed n is h = headed n is (none-left sizeRows sumRows s (none-right openingRows (sizeRows ++ sumRows) s h))
 
   -- and the other way round
-  pub framed-none : Framed s → NoneApplies headRows s
-  unfolding blockRows
+  pub framed-none : Framed s → NoneApplies (headerRows ++ sumRows) s
   framed-none F =
-      let long : 7 ≤ length s = omega (arith, F .size-right, F .posts-least) in (
-        le-ltb (length s) 7 long,
-        (
-          ap not (is-marked s (F .mark-right)),
-          (
-            ap not (eq-eqb (version s) 1 (F .version-right)),
-            (
-              r4· (F .posts-least) (F .posts-most),
-              (ap not (eq-eqb (length s) (size (posts s)) (F .size-right)), (ap not (eq-eqb (statedSum s) (earlierSum s) (F .sum-right)), tt)),
-            ),
-          ),
-        ),
-      )
-    where
-      r4· : 3 ≤ posts s → posts s ≤ limit → ltb (posts s) 3 || ltb limit (posts s) ≡ false
-      r4· a b = rw (le-ltb (posts s) 3 a, le-ltb limit (posts s) b) refl
+      let long : 7 ≤ length s = omega (arith, F .size-right, F .posts-least) in
+      let a : NoneApplies openingRows s = opening-fine long (is-marked s (F .mark-right)) (F .version-right) in
+      let b : NoneApplies sizeRows s = size-fine (F .posts-least) (F .posts-most) (F .size-right) in
+      let c : NoneApplies sumRows s = sum-fine (F .sum-right) in
+      search

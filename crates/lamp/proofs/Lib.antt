@@ -1,7 +1,7 @@
 pub mod Given
+pub mod Steps
 pub mod Heads
 pub mod Loads
-pub mod Rows
-pub mod Sounds
+pub mod Boards
 pub mod Accepts
 pub mod Retired

@@ -16,13 +16,13 @@ use Rattle.block.specs.Block.{posts, order, lists}
 use Rattle.order.specs.Order.{twoPlaced, oneRun, oneLater}
 use Rattle.order.proofs.Growth.{later-follows}
 use Rattle.order.proofs.Sound.{boarded-names, boarded-faces, boarded-outer}
-use Rattle.lamp.specs.Lamp.{Row, blockRows, positionRows, orderRows, checkRows, stageRow, roomRow, nameRow, sheetRows, postRows}
+use Rattle.lamp.specs.Lamp.{Row, blockRows, positionRows, fittingRows, checkRows, stageRow, roomRow, nameRow, sheetRows, postRows}
 use Rattle.lamp.specs.Given.{refused, given, NoneApplies}
 use Rattle.lamp.specs.Refusals.{numberOf}
 use Rattle.lamp.specs.declared.Refusal.{Refusal}
 use Rattle.lamp.specs.declared.Refusal.the-variants.{Short, Mark, Version, Posts, Length, Sum, Order, Degrees}
 use Rattle.lamp.specs.declared.Refusal.the-variants.{Ring, Triangle, Outer, Few, Broken, Stage, Room, Name}
-use Rattle.lamp.specs.Retired.{retired, retiredRow, paperPositionRows, paperOrderRows, paperRows, NoneIs, Retirement}
+use Rattle.lamp.specs.Retired.{retired, retiredRow, paperPositionRows, paperFittingRows, paperRows, NoneIs, Retirement}
 use Rattle.lamp.proofs.Given.{given-end, given-skip, given-stop, given-alike, given-none, given-says, not-both}
 use Rattle.lamp.proofs.Accepts.{lists-count, none-boarded, none-position}
 
@@ -59,7 +59,7 @@ order-rows (suc m) k = ((λ e. omega arith), ((λ e. omega arith), order-rows m 
 
 check-rows : (s : List ℕ) → NoneIs retired (checkRows s)
 unfolding checkRows
-check-rows s = is-both retired blockRows (orderRows s) block-rows (order-rows (posts s - 2) 3)
+check-rows s = is-both retired blockRows (fittingRows s) block-rows (order-rows (posts s - 2) 3)
 
 sheet-rows : (s : List ℕ) (k room : ℕ) → NoneIs retired (sheetRows s k room)
 unfolding sheetRows
@@ -138,25 +138,25 @@ module _ (s : List ℕ) (h : NoneApplies blockRows s) where
 
 -- the paper's rule per position applies nowhere exactly if the one without 14 does not
 module _ (s : List ℕ) (h : NoneApplies blockRows s) where
-  alike : given (paperOrderRows s) s posts ≡ given (orderRows s) s posts
+  alike : given (paperFittingRows s) s posts ≡ given (fittingRows s) s posts
   alike =
-      ap (λ (l : List Row). given l s posts) (sym (append-nil (paperOrderRows s)))
+      ap (λ (l : List Row). given l s posts) (sym (append-nil (paperFittingRows s)))
       ∙ from-position s h posts [] (posts s - 2) 3 (omega arith) (λ j a b. absurd (omega arith))
-      ∙ ap (λ (l : List Row). given l s posts) (append-nil (orderRows s))
+      ∙ ap (λ (l : List Row). given l s posts) (append-nil (fittingRows s))
 
-  pub paper-order : NoneApplies (orderRows s) s → NoneApplies (paperOrderRows s) s
-  paper-order r = given-says s posts (paperOrderRows s) (posts s) (alike ∙ given-none s posts (orderRows s) r)
+  pub paper-fitting : NoneApplies (fittingRows s) s → NoneApplies (paperFittingRows s) s
+  paper-fitting r = given-says s posts (paperFittingRows s) (posts s) (alike ∙ given-none s posts (fittingRows s) r)
 
-  pub order-paper : NoneApplies (paperOrderRows s) s → NoneApplies (orderRows s) s
-  order-paper r = given-says s posts (orderRows s) (posts s) (sym alike ∙ given-none s posts (paperOrderRows s) r)
+  pub fitting-paper : NoneApplies (paperFittingRows s) s → NoneApplies (fittingRows s) s
+  fitting-paper r = given-says s posts (fittingRows s) (posts s) (sym alike ∙ given-none s posts (paperFittingRows s) r)
 
 same : {A : Type 0} (answer : List ℕ → A) (after : List Row) (s : List ℕ) → given (paperRows s ++ after) s answer ≡ given (checkRows s ++ after) s answer
 unfolding paperRows checkRows
 same answer after s =
-    ap (λ (l : List Row). given l s answer) (append-assoc blockRows (paperOrderRows s) after)
-    ∙ given-alike s answer blockRows (paperOrderRows s ++ after) (orderRows s ++ after)
+    ap (λ (l : List Row). given l s answer) (append-assoc blockRows (paperFittingRows s) after)
+    ∙ given-alike s answer blockRows (paperFittingRows s ++ after) (fittingRows s ++ after)
     (λ h. from-position s h answer after (posts s - 2) 3 (omega arith) (λ j a b. absurd (omega arith)))
-    ∙ ap (λ (l : List Row). given l s answer) (sym (append-assoc blockRows (orderRows s) after))
+    ∙ ap (λ (l : List Row). given l s answer) (sym (append-assoc blockRows (fittingRows s) after))
 
 sheet-never : {A : Type 0} (answer : List ℕ → A) (s : List ℕ) (k room place : ℕ)
     → given (checkRows s ++ stageRow k ∷ roomRow k room ∷ []) s answer ≢ refused retired place

@@ -4,12 +4,20 @@ use mathlib.Core.Path.{_≡_}
 use mathlib.Core.Bool.{true, false}
 use mathlib.Core.List.{List, [], _∷_, _++_}
 use Rattle.block.specs.Block.{posts}
+use Rattle.lamp.specs.Refusals.{numberOf, placeOf}
 use Rattle.lamp.specs.Lamp.{Row, checkRows}
+use Rattle.lamp.specs.declared.Answer.{Answer}
+use Rattle.lamp.specs.declared.Answer.the-variants.{Accepted, Refused}
 
 -- acceptance with what is answered, or a refusal's number and place
 pub data Reply (A : Type 0) : Type 0 where
   accepted : A → Reply A
   refused : ℕ → ℕ → Reply A
+
+-- the reply that an answer stands for: n or 2k, or the refusal's number and place
+abbrev pub replyOf : Answer → Reply ℕ
+replyOf (Accepted n) = accepted n
+replyOf (Refused r) = refused (numberOf r) (placeOf r)
 
 -- The first row that applies is given, and given only then; if none applies, the call is accepted.
 unfoldable pub given : {A : Type 0} → List Row → List ℕ → (List ℕ → A) → Reply A

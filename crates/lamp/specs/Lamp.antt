@@ -1,4 +1,4 @@
--- Lamp red: the table of refusals. A row has its number, when it applies to a block, and the place it gives.
+-- Lamp red: the table of refusals. A row has its number, when it applies to a block, and the place it gives. The numbers are in Refusals.antt.
 use Prim.Native.Nat.{ℕ, _*_, _-_}
 use mathlib.Core.Bool.{Bool, not, _||_}
 use mathlib.Core.List.{List, [], _∷_, _++_, flatMap}
@@ -11,15 +11,22 @@ use Rattle.block.specs.Layout.{limit, entries, size}
 use Rattle.block.specs.Block.{version, posts, order, degrees, lists, statedSum, earlierSum, marked, badEntry, badDegree}
 use Rattle.rings.specs.Rings.{ringRule, triangleRule, outerRule}
 use Rattle.order.specs.Order.{twoPlaced, oneRun}
+use Rattle.lamp.specs.Refusals.{numberOf, placeOf}
+use Rattle.lamp.specs.declared.Refusal.{Refusal}
+use Rattle.lamp.specs.declared.Refusal.the-variants.{Short, Mark, Version, Posts, Length, Sum, Order, Degrees}
+use Rattle.lamp.specs.declared.Refusal.the-variants.{Ring, Triangle, Outer, Few, Broken, Stage, Room, Name}
 
 pub record Row : Type 0 where
   pub number : ℕ
   pub when : List ℕ → Bool
   pub place : List ℕ → ℕ
 
--- a row whose place is 0
-abbrev pub plain : ℕ → (List ℕ → Bool) → Row
-plain number when = record { number = number; when = when; place = λ s. 0 }
+-- the row of a refusal that needs no place, and of one with a place
+abbrev pub row : Refusal → (List ℕ → Bool) → Row
+row r when = record { number = numberOf r; when = when; place = λ s. placeOf r }
+
+abbrev pub rowAt : (ℕ → Refusal) → (List ℕ → ℕ) → (List ℕ → Bool) → Row
+rowAt r place when = record { number = numberOf (r 0); when = when; place = λ s. placeOf (r (place s)) }
 
 -- the first position at fault, of positions 1 to n; the lowest name at fault, of names 0 to n-1: n if there is none
 abbrev pub position : (List ℕ → ℕ → Bool) → List ℕ → ℕ
@@ -47,46 +54,102 @@ ringFault s = let G = lists s in λ u. not (ringRule G u)
 abbrev pub triangleFault : List ℕ → ℕ → Bool
 triangleFault s = let G = lists s in λ u. not (triangleRule G u)
 
--- the table's first eleven rows
-unfoldable pub blockRows : List Row
-blockRows =
-    plain 1 (λ s. ltb (length s) 7)
-    ∷ plain 2 (λ s. not (marked s))
-    ∷ plain 3 (λ s. not (eqb (version s) 1))
-    ∷ plain 4 (λ s. ltb (posts s) 3 || ltb limit (posts s))
-    ∷ plain 5 (λ s. not (eqb (length s) (size (posts s))))
-    ∷ plain 6 (λ s. not (eqb (statedSum s) (earlierSum s)))
-    ∷ record { number = 7; when = somePosition entryFault; place = position entryFault }
-    ∷ record { number = 8; when = λ s. someName degreeFault s || not (eqb (sumOf (degrees s)) (entries (posts s))); place = name degreeFault }
-    ∷ record { number = 9; when = someName ringFault; place = name ringFault }
-    ∷ record { number = 10; when = someName triangleFault; place = name triangleFault }
-    ∷ plain 11 (λ s. let vs = order s in not (outerRule (lists s) (post vs 1) (post vs 2) (post vs (posts s))))
-    ∷ []
+-- ---- the rows
 
--- 12 and 13, tried at position k (14 is retired: Retired.antt)
-unfoldable pub positionRows : ℕ → List Row
-positionRows k =
-    record { number = 12; when = λ s. not (twoPlaced (lists s) (earlier (order s) k) (post (order s) k)); place = λ s. k }
-    ∷ record { number = 13; when = λ s. not (oneRun (lists s) (earlier (order s) k) (post (order s) k)); place = λ s. k }
-    ∷ []
+abbrev pub shortRow : Row
+shortRow = row Short (λ s. ltb (length s) 7)
 
--- the rule per position: positions 3, 4, up to n in turn
-abbrev pub orderRows : List ℕ → List Row
-orderRows s = flatMap positionRows (numbers 3 (posts s - 2))
+abbrev pub markRow : Row
+markRow = row Mark (λ s. not (marked s))
 
--- 1 to 11 in that order; then the rule per position
-unfoldable pub checkRows : List ℕ → List Row
-checkRows s = blockRows ++ orderRows s
+abbrev pub versionRow : Row
+versionRow = row Version (λ s. not (eqb (version s) 1))
 
--- 15, for a stage k; 16, for a stage k and a buffer with room for so many entries; 17, for a name
+abbrev pub postsRow : Row
+postsRow = row Posts (λ s. ltb (posts s) 3 || ltb limit (posts s))
+
+abbrev pub lengthRow : Row
+lengthRow = row Length (λ s. not (eqb (length s) (size (posts s))))
+
+abbrev pub sumRow : Row
+sumRow = row Sum (λ s. not (eqb (statedSum s) (earlierSum s)))
+
+abbrev pub entryRow : Row
+entryRow = rowAt Order (position entryFault) (somePosition entryFault)
+
+abbrev pub degreeRow : Row
+degreeRow = rowAt Degrees (name degreeFault) (λ s. someName degreeFault s || not (eqb (sumOf (degrees s)) (entries (posts s))))
+
+abbrev pub ringRow : Row
+ringRow = rowAt Ring (name ringFault) (someName ringFault)
+
+abbrev pub triangleRow : Row
+triangleRow = rowAt Triangle (name triangleFault) (someName triangleFault)
+
+abbrev pub outerRow : Row
+outerRow = row Outer (λ s. let vs = order s in not (outerRule (lists s) (post vs 1) (post vs 2) (post vs (posts s))))
+
+-- at position k
+abbrev pub fewRow : ℕ → Row
+fewRow k = rowAt Few (λ s. k) (λ s. not (twoPlaced (lists s) (earlier (order s) k) (post (order s) k)))
+
+abbrev pub brokenRow : ℕ → Row
+brokenRow k = rowAt Broken (λ s. k) (λ s. not (oneRun (lists s) (earlier (order s) k) (post (order s) k)))
+
+-- for a stage k; for a stage k and a buffer with room for so many entries; for a name u
 abbrev pub stageRow : ℕ → Row
-stageRow k = plain 15 (λ s. ltb k 3 || ltb (posts s) k)
+stageRow k = row Stage (λ s. ltb k 3 || ltb (posts s) k)
 
 abbrev pub roomRow : ℕ → ℕ → Row
-roomRow k room = plain 16 (λ s. ltb room (2 * k))
+roomRow k room = row Room (λ s. ltb room (2 * k))
 
 abbrev pub nameRow : ℕ → Row
-nameRow u = plain 17 (λ s. leb (posts s) u)
+nameRow u = row Name (λ s. leb (posts s) u)
+
+-- ---- the groups
+
+abbrev pub openingRows : List Row
+openingRows = shortRow ∷ markRow ∷ versionRow ∷ []
+
+abbrev pub sizeRows : List Row
+sizeRows = postsRow ∷ lengthRow ∷ []
+
+abbrev pub headerRows : List Row
+headerRows = openingRows ++ sizeRows
+
+abbrev pub sumRows : List Row
+sumRows = sumRow ∷ []
+
+abbrev pub orderRows : List Row
+orderRows = entryRow ∷ []
+
+abbrev pub degreeRows : List Row
+degreeRows = degreeRow ∷ []
+
+abbrev pub ringRows : List Row
+ringRows = ringRow ∷ []
+
+abbrev pub triangleRows : List Row
+triangleRows = triangleRow ∷ []
+
+abbrev pub outerRows : List Row
+outerRows = outerRow ∷ []
+
+-- the rule per position: at position k (14 is retired: Retired.antt); and at positions 3, 4, up to n in turn
+unfoldable pub positionRows : ℕ → List Row
+positionRows k = fewRow k ∷ brokenRow k ∷ []
+
+abbrev pub fittingRows : List ℕ → List Row
+fittingRows s = flatMap positionRows (numbers 3 (posts s - 2))
+
+-- ---- the services' tables
+
+-- what check asks before the rule per position
+unfoldable pub blockRows : List Row
+blockRows = headerRows ++ sumRows ++ orderRows ++ degreeRows ++ ringRows ++ triangleRows ++ outerRows
+
+unfoldable pub checkRows : List ℕ → List Row
+checkRows s = blockRows ++ fittingRows s
 
 unfoldable pub sheetRows : List ℕ → ℕ → ℕ → List Row
 sheetRows s k room = checkRows s ++ stageRow k ∷ roomRow k room ∷ []

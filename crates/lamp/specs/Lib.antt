@@ -1,5 +1,5 @@
+pub mod Refusals
 pub mod Lamp
 pub mod Given
-pub mod Refusals
 pub mod Retired
-pub mod Held
+pub mod Loaded

@@ -26,11 +26,11 @@ retiredRow k =
 abbrev pub paperPositionRows : ℕ → List Row
 paperPositionRows k = positionRows k ++ retiredRow k ∷ []
 
-abbrev pub paperOrderRows : List ℕ → List Row
-paperOrderRows s = flatMap paperPositionRows (numbers 3 (posts s - 2))
+abbrev pub paperFittingRows : List ℕ → List Row
+paperFittingRows s = flatMap paperPositionRows (numbers 3 (posts s - 2))
 
 unfoldable pub paperRows : List ℕ → List Row
-paperRows s = blockRows ++ paperOrderRows s
+paperRows s = blockRows ++ paperFittingRows s
 
 -- no row of these has the number
 abbrev pub NoneIs : ℕ → List Row → Type 0
@@ -45,7 +45,8 @@ pub record Retirement : Type 1 where
   pub post : {A : Type 0} (answer : List ℕ → A) (s : List ℕ) (k u place : ℕ)
       → given (paperRows s ++ stageRow k ∷ nameRow u ∷ []) s answer ≢ refused retired place
   -- Its removal changes no reply, whatever rows follow.
-  pub same : {A : Type 0} (answer : List ℕ → A) (after : List Row) (s : List ℕ) → given (paperRows s ++ after) s answer ≡ given (checkRows s ++ after) s answer
+  pub same : {A : Type 0} (answer : List ℕ → A) (after : List Row) (s : List ℕ)
+      → given (paperRows s ++ after) s answer ≡ given (checkRows s ++ after) s answer
   -- Its number is not used again: no row of a service has it, and no refusal.
   pub sheet-rows : (s : List ℕ) (k room : ℕ) → NoneIs retired (sheetRows s k room)
   pub post-rows : (s : List ℕ) (k u : ℕ) → NoneIs retired (postRows s k u)

@@ -9,8 +9,8 @@ ghost use lib.Seq.{slice};
 ghost use Rattle.words.specs.First.{first};
 ghost use Rattle.words.specs.Lists.{mem, count};
 ghost use Rattle.words.specs.Numbers.{sumOf};
-ghost use Rattle.block.specs.Layout.{limit, entries, size};
-ghost use Rattle.block.specs.Block.{posts, degrees, lists};
+ghost use Rattle.block.specs.Layout.{limit, entries};
+ghost use Rattle.block.specs.Block.{degrees, lists, Headed};
 ghost use Rattle.rings.specs.Rings.{around, next, entryRule, ringRule, follows, triangleRule, outerRule};
 ghost use Rattle.rings.specs.Held.{held, Cuts};
 
@@ -195,7 +195,7 @@ pub fn is_outer(ents: &[u16], at: &[u16], v1: u16, v2: u16, vn: u16) -> bool
 
 // at and ents become the block's neighbour lists, with the degrees ds that total 6n-12.
 pub fn read_lists(s: &[u8], b: block::Block, ds: &[u16], at: &mut [u16], ents: &mut [u16])
-    requires { ⌜ (b .n ≡ posts (now s)) × (b .n ≤ limit) × (3 ≤ b .n) × (length (now s) ≡ size (b .n)) × (now ds ≡ degrees (now s)) × (sumOf (now ds) ≡ entries (b .n)) × (limit < length (now at)) × (entries limit ≤ length (now ents)) ⌝ }
+    requires { ⌜ Headed (now s) (b .n) × (now ds ≡ degrees (now s)) × (sumOf (now ds) ≡ entries (b .n)) × (limit < length (now at)) × (entries limit ≤ length (now ents)) ⌝ }
     ensures { λ r. ⌜ (held (take (b .n + 1) (now (at .exit))) (take (entries (b .n)) (now (ents .exit))) ≡ lists (now (s .entry))) × Cuts (take (b .n + 1) (now (at .exit))) (take (entries (b .n)) (now (ents .exit))) ⌝ }
 {
     block::starts(ds, at);

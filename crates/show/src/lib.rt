@@ -24,10 +24,16 @@ pub fn number(x: u16) {
 }
 
 // A refusal: the word, its number and its place.
-pub fn refused(r: Refusal) {
+fn refusal(r: Refusal) {
+    let t = r.told();
     text(b"refused");
-    number(r.number());
-    number(r.place());
+    number(t.number);
+    number(t.place);
+}
+
+// The same as a line.
+pub fn refused(r: Refusal) {
+    refusal(r);
     text(b"\n");
 }
 
@@ -128,11 +134,7 @@ pub fn reply_of_sheet(s: &[u8], k: usize, buffer: &mut [u16])
     ensures { λ r. ⌜ now (buffer .exit) ≡ bufferAfter (now (s .entry)) k (now (buffer .entry)) ⌝ }
 {
     match unit::sheet(s, k, buffer) {
-        Answer::Refused(r) => {
-            text(b"refused");
-            number(r.number());
-            number(r.place());
-        }
+        Answer::Refused(r) => refusal(r),
         Answer::Accepted(count) => {
             text(b"accepted");
             number(count);

@@ -17,18 +17,14 @@ use Rattle.placing.specs.Records.{recordOf, entriesOf}
 use Rattle.placing.specs.declared.Record.{Record}
 use Rattle.engine.specs.Found.{Accepted}
 use Rattle.lamp.specs.Lamp.{Row, checkRows, stageRow, roomRow, nameRow, sheetRows, postRows}
-use Rattle.lamp.specs.Given.{Reply, accepted, refused, given, checkReply, NoneApplies}
+use Rattle.lamp.specs.Given.{Reply, accepted, refused, given, checkReply}
 use Rattle.unit.specs.Replies.{stageAt, sheetReply, bufferFor, bufferAfter, postReply}
-use Rattle.lamp.specs.Held.{Laid, Ready}
-use Rattle.lamp.proofs.Given.{given-end, given-skip, given-stop, given-past, given-says, given-refused, refused-any}
-use Rattle.lamp.proofs.Sounds.{laid}
-use Rattle.lamp.proofs.Accepts.{none-passes}
+use Rattle.lamp.specs.Loaded.{Trimmed, Checked}
+use Rattle.lamp.proofs.Given.{given-end, given-skip, given-stop, given-past, given-refused, refused-any}
+use Rattle.lamp.proofs.Loads.{trimmed}
+use Rattle.lamp.proofs.Accepts.{none-passes, accepted-none}
 
 module _ (s : List ℕ) where
-  check-none : (n : ℕ) → checkReply s ≡ accepted n → NoneApplies (checkRows s) s
-  unfolding checkReply
-  check-none n e = given-says s posts (checkRows s) n e
-
   check-refused : {A : Type 0} (answer : List ℕ → A) (rest : List Row) (number place : ℕ) → checkReply s ≡ refused number place → given (checkRows s ++ rest) s answer ≡ refused number place
   unfolding checkReply
   check-refused answer rest number place e = given-refused s answer (checkRows s) rest number place (refused-any s posts answer (checkRows s) number place e)
@@ -43,7 +39,7 @@ module _ (s : List ℕ) where
     module _ (n : ℕ) (e : checkReply s ≡ accepted n) (is : n ≡ posts s) where
       past : sheetReply s k b ≡ given (stageRow k ∷ roomRow k (length b) ∷ []) s (λ z. 2 * k)
       unfolding sheetReply sheetRows
-      past = given-past s (λ z. 2 * k) (checkRows s) (stageRow k ∷ roomRow k (length b) ∷ []) (check-none n e)
+      past = given-past s (λ z. 2 * k) (checkRows s) (stageRow k ∷ roomRow k (length b) ∷ []) (accepted-none s n e)
 
       pub sheet-low : k < 3 → sheetReply s k b ≡ refused 15 0
       sheet-low h = past ∙ given-stop s (λ z. 2 * k) (stageRow k) _ (rw (lt-ltb k 3 h) refl)
@@ -84,7 +80,7 @@ module _ (s : List ℕ) where
     module _ (n : ℕ) (e : checkReply s ≡ accepted n) (is : n ≡ posts s) where
       on : postReply s k u ≡ given (stageRow k ∷ nameRow u ∷ []) s answer
       unfolding postReply postRows
-      on = given-past s answer (checkRows s) (stageRow k ∷ nameRow u ∷ []) (check-none n e)
+      on = given-past s answer (checkRows s) (stageRow k ∷ nameRow u ∷ []) (accepted-none s n e)
 
       pub post-low : k < 3 → postReply s k u ≡ refused 15 0
       post-low h = on ∙ given-stop s answer (stageRow k) _ (rw (lt-ltb k 3 h) refl)
@@ -105,9 +101,9 @@ module _ (s : List ℕ) where
 
   -- ---- what the engine asks, and what it gives
 
-  module _ (n : ℕ) (e : checkReply s ≡ accepted n) (vs at ents rank : List ℕ) (R : Ready s n vs at ents rank) (room : limit < length at) where
-    L : Laid s (take n vs) (take (n + 1) at) (take (entries n) ents)
-    L = laid s n vs at ents (R .headed) room (R .holds)
+  module _ (n : ℕ) (e : checkReply s ≡ accepted n) (vs at ents rank : List ℕ) (R : Checked s n vs at ents rank) (room : limit < length at) where
+    L : Trimmed s (take n vs) (take (n + 1) at) (take (entries n) ents)
+    L = trimmed s n vs at ents (R .headed) room (R .loaded)
 
     pub length-is : length (take n vs) ≡ n
     length-is = L .headed .is ∙ sym (R .headed .is)
@@ -115,7 +111,7 @@ module _ (s : List ℕ) where
     pub to-engine : Accepted (take (n + 1) at) (take (entries n) ents) (take n vs) rank
     to-engine =
         record {
-          passes = subst⁻¹ (λ (G : List (List ℕ)). Passes G (take n vs)) (L .rings) (subst⁻¹ (Passes (lists s)) (L .orders) (none-passes s (check-none n e)));
+          passes = subst⁻¹ (λ (G : List (List ℕ)). Passes G (take n vs)) (L .rings) (subst⁻¹ (Passes (lists s)) (L .orders) (none-passes s (accepted-none s n e)));
           cuts = L .cuts;
           all = L .places;
           three = L .headed .least;

@@ -9,19 +9,18 @@ use Rattle.rings.specs.Plane.{Plane}
 use Rattle.order.specs.Canonical.{Canonical}
 use Rattle.order.proofs.Sound.{passes-sound, sound-passes}
 use Rattle.placing.specs.Records.{recordOf, entriesOf}
-use Rattle.lamp.specs.Lamp.{blockRows, orderRows, checkRows, sheetRows, postRows}
-use Rattle.lamp.specs.Given.{Reply, accepted, refused, checkReply, NoneApplies}
+use Rattle.lamp.specs.Lamp.{checkRows, sheetRows, postRows}
+use Rattle.lamp.specs.Given.{Reply, accepted, refused, checkReply}
 use Rattle.unit.specs.Replies.{stageAt, sheetReply, bufferFor, bufferAfter, postReply}
 use Rattle.unit.specs.Demands.{Services, thePaper, Accepted, Refused, Demand1, Sound, Demand2, Demand3}
-use Rattle.lamp.proofs.Given.{given-none, given-says, given-fixed, fixed-one, not-both}
-use Rattle.lamp.proofs.Sounds.{accepted-is}
-use Rattle.lamp.proofs.Accepts.{none-left, lists-count, none-framed, none-passes, passes-none}
+use Rattle.lamp.proofs.Given.{given-none, given-fixed, fixed-one, accepted-is, not-both}
+use Rattle.lamp.proofs.Accepts.{lists-count, none-passes, passes-none, accepted-none, accepted-posts, accepted-framed}
 use Rattle.unit.proofs.Third.{demand-3}
 
 -- a reply is an acceptance or a refusal
-either : {A C : Type 0} (r : Reply A) → (Accepted r → C) → (Refused r → C) → C
-either (accepted a) f g = f (a, refl)
-either (refused number place) f g = g (number, place, refl)
+by-reply : {A C : Type 0} (r : Reply A) → (Accepted r → C) → (Refused r → C) → C
+by-reply (accepted a) f g = f (a, refl)
+by-reply (refused number place) f g = g (number, place, refl)
 
 -- ---- 1
 
@@ -43,23 +42,10 @@ first-demand =
 -- ---- 2
 
 module _ (s : List ℕ) where
-  -- an accepted block has the right mark, version, size and sum, and its lists and order pass the tests
-  pub accepted-none : (n : ℕ) → checkReply s ≡ accepted n → NoneApplies (checkRows s) s
-  unfolding checkReply
-  accepted-none n e = given-says s posts (checkRows s) n e
-
-  pub accepted-posts : (n : ℕ) → checkReply s ≡ accepted n → n ≡ posts s
-  unfolding checkReply
-  accepted-posts n e = accepted-is s posts (checkRows s) n e
-
-  pub accepted-framed : (n : ℕ) → checkReply s ≡ accepted n → Framed s
-  unfolding checkRows
-  accepted-framed n e = none-framed s (none-left blockRows (orderRows s) s (accepted-none n e))
-
   pub accepted-sound : (n : ℕ) → checkReply s ≡ accepted n → Sound s
   accepted-sound n e =
       subst (λ (m : ℕ). Plane (lists s) (post (order s) 1) (post (order s) 2) (post (order s) m) × Canonical (lists s) (order s)) (lists-count s)
-      (passes-sound (lists s) (order s) (none-passes s (accepted-none n e)))
+      (passes-sound (lists s) (order s) (none-passes s (accepted-none s n e)))
 
   pub sound-accepted : Framed s → Sound s → checkReply s ≡ accepted (posts s)
   unfolding checkReply
@@ -80,7 +66,7 @@ unfolding sheetReply postReply bufferAfter
 second-demand =
     record {
       exactly = λ s F. (λ a. accepted-sound s (a .0) (a .1), λ S. (posts s, sound-accepted s F S));
-      others = λ s h. either (checkReply s) (λ a. absurd (h (accepted-framed s (a .0) (a .1), accepted-sound s (a .0) (a .1)))) (λ r. r);
+      others = λ s h. by-reply (checkReply s) (λ a. absurd (h (accepted-framed s (a .0) (a .1), accepted-sound s (a .0) (a .1)))) (λ r. r);
       stands = λ s k b h. stands (sheetReply s k b) s k b h (λ a e. accepted-is s (λ z. 2 * k) (sheetRows s k (length b)) a e);
       recorded = λ s k u h. h .1 ∙ ap accepted (accepted-is s (λ z. recordOf (stageAt k z) u) (postRows s k u) (h .0) (h .1));
     }
@@ -107,5 +93,5 @@ module _ (U W : Services) (D : Demand1 U) (E : Demand1 W) where
 
   pub one-buffer : Demand2 U → Demand2 W → (s : List ℕ) (k : ℕ) (b : List ℕ) → U .buffer s k b ≡ W .buffer s k b
   one-buffer P Q s k b =
-      either (U .sheet s k b) (λ a. P .stands s k b a ∙ sym (Q .stands s k b (a .0, sym (one-sheet s k b) ∙ a .1)))
+      by-reply (U .sheet s k b) (λ a. P .stands s k b a ∙ sym (Q .stands s k b (a .0, sym (one-sheet s k b) ∙ a .1)))
       (λ r. D .unchanged s k b r ∙ sym (E .unchanged s k b (r .0, r .1, sym (one-sheet s k b) ∙ r .2)))

@@ -7,12 +7,11 @@ use Rattle.block.specs.Block.{posts, order, lists}
 use Rattle.drawing.specs.Areas.{PositiveArea}
 use Rattle.shift.proofs.Mirror.{no-mirror-at}
 use Rattle.lamp.specs.Given.{accepted, checkReply}
-use Rattle.lamp.proofs.Accepts.{lists-count, none-passes}
+use Rattle.lamp.proofs.Accepts.{lists-count, none-passes, accepted-none, accepted-posts}
 use Rattle.unit.specs.Replies.{stageAt, sheetReply}
 use Rattle.unit.specs.Demands.{thePaper, Accepted, places, onSheet}
 use Rattle.unit.specs.Mirror.{Inner, NoMirror}
 use Rattle.unit.proofs.Third.{Passing}
-use Rattle.unit.proofs.Demanded.{accepted-none, accepted-posts}
 use Rattle.unit.proofs.Written.{sheet-passes, sheet-least, sheet-most, sheet-x, sheet-y}
 
 module _ (s : List ℕ) (S : Passing s) (k : ℕ) (h : 3 ≤ k) (i : k ≤ posts s) where

@@ -12,11 +12,11 @@ use Rattle.placing.specs.Records.{leftOf, rightOf, standing, recordOf, entriesO
 use Rattle.lamp.specs.Lamp.{blockRows, positionRows, checkRows, sheetRows, postRows}
 use Rattle.lamp.specs.Given.{given, checkReply}
 use Rattle.unit.specs.Replies.{stageAt, sheetReply, bufferFor, bufferAfter, postReply}
-use Rattle.unit.specs.Starred.{bytes, blockOf, T, D, starred, AllHold}
+use Rattle.unit.specs.Starred.{bytes, blockOf, T, D, starred, AllGive}
 
-pub starred-hold : AllHold starred
+pub starred-given : AllGive starred
 unfolding flatMap flatten wordsAt sumOf numbers first some mem allOf anyOf count order degrees listsFrom lists marked badEntry badDegree around next
     allNext follows entryRule ringRule triangleRule outerRule twoPlaced from lead rest leads oneRun begins run third upTo onFrom placeOver place
     placeAll stage leftOf rightOf standing recordOf entriesOf blockRows positionRows checkRows sheetRows postRows given stageAt checkReply sheetReply
     bufferFor bufferAfter postReply bytes blockOf T D starred
-starred-hold = ((refl, refl), ((refl, refl), ((refl, refl), ((refl, refl), (refl, ((refl, refl), (refl, ((refl, refl), (refl, ((refl, refl), ((refl, refl), (refl, (refl, (refl, (refl, (refl, (refl, (refl, tt))))))))))))))))))
+starred-given = ((refl, refl), ((refl, refl), ((refl, refl), ((refl, refl), (refl, ((refl, refl), (refl, ((refl, refl), (refl, ((refl, refl), ((refl, refl), (refl, (refl, (refl, (refl, (refl, (refl, (refl, tt))))))))))))))))))

@@ -25,9 +25,9 @@ use Rattle.lamp.specs.Lamp.{checkRows, stageRow, roomRow, sheetRows}
 use Rattle.lamp.specs.Given.{NoneApplies}
 use Rattle.unit.specs.Replies.{stageAt, sheetReply}
 use Rattle.unit.specs.Demands.{thePaper, Accepted, places, Placed, Moves, positionOf, onSheet, Safe, SafeSheets}
-use Rattle.lamp.proofs.Given.{given-says}
-use Rattle.lamp.proofs.Sounds.{order-length}
-use Rattle.lamp.proofs.Accepts.{none-left, none-right, lists-count, none-passes}
+use Rattle.lamp.proofs.Given.{given-says, none-left, none-right}
+use Rattle.lamp.proofs.Loads.{order-length}
+use Rattle.lamp.proofs.Accepts.{lists-count, none-passes}
 use Rattle.unit.proofs.Third.{Passing, on-grid, no-short, moves}
 use Rattle.unit.proofs.Demanded.{second-demand}
 

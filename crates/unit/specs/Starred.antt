@@ -31,14 +31,14 @@ pub data Case : Type 0 where
   sheet : List ℕ → ℕ → List ℕ → Reply ℕ → List ℕ → Case
   post : List ℕ → ℕ → ℕ → Reply Record → Case
 
-abbrev pub Holds : Case → Type 0
-Holds (check s r) = checkReply s ≡ r
-Holds (sheet s k b r after) = (sheetReply s k b ≡ r) × (bufferAfter s k b ≡ after)
-Holds (post s k u r) = postReply s k u ≡ r
+abbrev pub Gives : Case → Type 0
+Gives (check s r) = checkReply s ≡ r
+Gives (sheet s k b r after) = (sheetReply s k b ≡ r) × (bufferAfter s k b ≡ after)
+Gives (post s k u r) = postReply s k u ≡ r
 
-abbrev pub AllHold : List Case → Type 0
-AllHold [] = Unit {0}
-AllHold (c ∷ l) = Holds c × AllHold l
+abbrev pub AllGive : List Case → Type 0
+AllGive [] = Unit {0}
+AllGive (c ∷ l) = Gives c × AllGive l
 
 unfoldable pub starred : List Case
 starred =

@@ -8,9 +8,8 @@ ghost use Rattle.rings.specs.Held.{held};
 ghost use Rattle.placing.specs.Stages.{stage};
 ghost use Rattle.placing.specs.Records.{recordOf, entriesOf};
 ghost use Rattle.engine.specs.Found.{Accepted};
-ghost use Rattle.lamp.specs.Given.{accepted, checkReply};
-ghost use Rattle.lamp.specs.Refusals.{replyOf};
-ghost use Rattle.lamp.specs.Held.{Wide, Ready};
+ghost use Rattle.lamp.specs.Given.{accepted, replyOf, checkReply};
+ghost use Rattle.lamp.specs.Loaded.{Wide, Checked};
 ghost use Rattle.unit.specs.Replies.{sheetReply, bufferAfter, postReply, postedOf};
 use block::Block;
 use lamp::Answer;
@@ -112,7 +111,7 @@ fn sheet_of(
     k: usize,
     buffer: &mut [u16],
 ) -> Answer
-    requires { ⌜ (checkReply (now s) ≡ accepted n) × Ready (now s) n (now vs) (now at) (now ents) (now rank) × Wide (now vs) (now at) (now ents) ⌝ }
+    requires { ⌜ (checkReply (now s) ≡ accepted n) × Checked (now s) n (now vs) (now at) (now ents) (now rank) × Wide (now vs) (now at) (now ents) ⌝ }
     ensures { λ r. ⌜ (replyOf r ≡ sheetReply (now (s .entry)) k (now (buffer .entry))) × (now (buffer .exit) ≡ bufferAfter (now (s .entry)) k (now (buffer .entry))) ⌝ }
 {
     if k < 3 {
@@ -165,7 +164,7 @@ fn post_of(
     k: usize,
     u: usize,
 ) -> Posted
-    requires { ⌜ (checkReply (now s) ≡ accepted n) × Ready (now s) n (now vs) (now at) (now ents) (now rank) × Wide (now vs) (now at) (now ents) ⌝ }
+    requires { ⌜ (checkReply (now s) ≡ accepted n) × Checked (now s) n (now vs) (now at) (now ents) (now rank) × Wide (now vs) (now at) (now ents) ⌝ }
     ensures { λ r. ⌜ postedOf r ≡ postReply (now (s .entry)) k u ⌝ }
 {
     if k < 3 {

@@ -17,15 +17,19 @@ slice-reshare-prefix-first-bad-degree c = search needs
 
 slice-aggregate-first-bad-degree : tie.Need-slice-aggregate-first-bad-degree
 slice-aggregate-first-bad-degree c =
-    let entry = c .before .before .before .before .before .before .before .before in
-    let unpack = c .before .before .before .unpack in
-    sym (unpacked-length (entry .args .s .now) (unpack .last .1 .1 .1 .0) (c .before .before .before .before .before .degrees-at .result) (entry .args .b .n) (unpack .ensures))
+    let read = c .before .before .before in
+    let begun = read .before .before in
+    let entry = begun .before .before .before in
+    let unpack = read .unpack in
+    sym (unpacked-length (entry .args .s .now) (unpack .last .1 .1 .1 .0) (begun .degrees-at .result) (entry .args .b .n) (unpack .ensures))
 
 first-bad-degree-requires : tie.Need-first-bad-degree-requires
 first-bad-degree-requires c κs =
-    let entry = c .before .before .before .before .before .before .before .before in
-    let unpack = c .before .before .before .unpack in
-    let e = unpacked-length (entry .args .s .now) (unpack .last .1 .1 .1 .0) (c .before .before .before .before .before .degrees-at .result) (entry .args .b .n) (unpack .ensures) in
+    let read = c .before .before .before in
+    let begun = read .before .before in
+    let entry = begun .before .before .before in
+    let unpack = read .unpack in
+    let e = unpacked-length (entry .args .s .now) (unpack .last .1 .1 .1 .0) (begun .degrees-at .result) (entry .args .b .n) (unpack .ensures) in
     (omega (arith, e), omega (arith, e))
 
 same-length : tie.Need-same-length
@@ -33,12 +37,17 @@ same-length c = search needs
 
 returns : tie.Need-returns
 returns c =
-    let entry = c .before .before .before .before .before .before .before .before .before in
-    let degrees-at = c .before .before .before .before .before .before .degrees-at in
-    let unpack = c .before .before .before .before .unpack in
-    let L = unpacked-length (entry .args .s .now) (unpack .last .1 .1 .1 .0) (degrees-at .result) (entry .args .b .n) (unpack .ensures) in
-    let D = degrees-read (entry .args .s .now) (unpack .last .1 .1 .1 .0) (entry .args .b .n) (degrees-at .result) (entry .pre .0) (degrees-at .ensures) (unpack .ensures) in
-    (D, same-first badDegree _ (degrees (entry .args .s .now)) (entry .args .b .n) 0 (c .first-bad-degree .result) D L (c .first-bad-degree .ensures))
+    let read = c .before .before .before .before in
+    let begun = read .before .before in
+    let entry = begun .before .before .before in
+    let unpack = read .unpack in
+    let s = entry .args .s .now in
+    let n = entry .args .b .n in
+    let at = begun .degrees-at .result in
+    let ds = unpack .last .1 .1 .1 .0 in
+    let L = unpacked-length s ds at n (unpack .ensures) in
+    let D = degrees-read s ds n at (entry .pre .0 .is) (begun .degrees-at .ensures) (unpack .ensures) in
+    (D, same-first badDegree _ (degrees s) n 0 (c .first-bad-degree .result) D L (c .first-bad-degree .ensures))
 
 pub read-degrees-spec : {M : Type 1} → statement M
 read-degrees-spec =

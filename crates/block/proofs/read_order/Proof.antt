@@ -18,8 +18,9 @@ slice-reshare-prefix-first-bad-entry c = search needs
 
 slice-aggregate-first-bad-entry : tie.Need-slice-aggregate-first-bad-entry
 slice-aggregate-first-bad-entry c =
-    let entry = c .before .before .before .before .before .before .before .before in
-    let unpack = c .before .before .before .before .unpack in
+    let read = c .before .before .before .before in
+    let entry = read .before .before .before .before in
+    let unpack = read .unpack in
     sym (unpacked-length (entry .args .s .now) (unpack .last .1 .1 .1 .0) orderAt (entry .args .b .n) (unpack .ensures))
 
 slice-aggregate-first-bad-entry-2 : tie.Need-slice-aggregate-first-bad-entry-2
@@ -27,21 +28,28 @@ slice-aggregate-first-bad-entry-2 c = search needs
 
 first-bad-entry-requires : tie.Need-first-bad-entry-requires
 first-bad-entry-requires c κs =
-    let entry = c .before .before .before .before .before .before .before .before .before in
-    let unpack = c .before .before .before .before .before .unpack in
+    let marked = c .before .before in
+    let read = marked .before .before .before in
+    let entry = read .before .before .before .before in
+    let unpack = read .unpack in
     let e = unpacked-length (entry .args .s .now) (unpack .last .1 .1 .1 .0) orderAt (entry .args .b .n) (unpack .ensures) in
-    (omega (arith, e, c .before .before .no-marks .ensures .0), omega (arith, e), c .before .before .no-marks .ensures .1)
+    (omega (arith, e, marked .no-marks .ensures .0), omega (arith, e), marked .no-marks .ensures .1)
 
 same-length : tie.Need-same-length
 same-length c = search needs
 
 returns : tie.Need-returns
 returns c =
-    let entry = c .before .before .before .before .before .before .before .before .before .before .before in
-    let unpack = c .before .before .before .before .before .before .before .unpack in
-    let L = unpacked-length (entry .args .s .now) (unpack .last .1 .1 .1 .0) orderAt (entry .args .b .n) (unpack .ensures) in
-    let D = order-read (entry .args .s .now) (unpack .last .1 .1 .1 .0) (entry .args .b .n) (entry .pre .0) (unpack .ensures) in
-    (D, same-first badEntry _ (order (entry .args .s .now)) (entry .args .b .n) 1 (c .before .first-bad-entry .result) D L (c .before .first-bad-entry .ensures))
+    let looked = c .before in
+    let read = looked .before .before .before .before .before .before in
+    let entry = read .before .before .before .before in
+    let unpack = read .unpack in
+    let s = entry .args .s .now in
+    let n = entry .args .b .n in
+    let vs = unpack .last .1 .1 .1 .0 in
+    let L = unpacked-length s vs orderAt n (unpack .ensures) in
+    let D = order-read s vs n (entry .pre .0 .is) (unpack .ensures) in
+    (D, same-first badEntry _ (order s) n 1 (looked .first-bad-entry .result) D L (looked .first-bad-entry .ensures))
 
 pub read-order-spec : {M : Type 1} → statement M
 read-order-spec =

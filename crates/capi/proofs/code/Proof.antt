@@ -3,7 +3,7 @@ use Rattle.capi.proofs.code.Statement.{statement}
 use Rattle.capi.proofs.code.Tie as tie
 use mathlib.Core.Path.{sym, ap, _∙_}
 use Rattle.capi.specs.Codes.{codeOf}
-use Rattle.lamp.specs.Refusals.{replyOf}
+use Rattle.lamp.specs.Given.{replyOf}
 
 enum-known-a : tie.Need-enum-known-a
 enum-known-a c = search needs

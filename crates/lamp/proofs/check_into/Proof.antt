@@ -1,17 +1,19 @@
 use borrow.Author.Needs.{needs}
 use Rattle.lamp.proofs.check_into.Statement.{statement}
 use Rattle.lamp.proofs.check_into.Tie as tie
+use Rattle.lamp.proofs.check_into.Reads as reads
+use Rattle.lamp.proofs.check_into.Lts as lts
+use Rattle.lamp.proofs.body.Reads as body-reads
+use Rattle.lamp.proofs.header.header.Reads as header-reads
+use Rattle.words.proofs.number.Reads as number-reads
 use native.Mathlib.Omega.{arith}
-use Prim.Native.Nat.{ℕ, _+_}
-use mathlib.Core.Path.{sym, ap, _∙_, subst, subst⁻¹}
+use mathlib.Core.Path.{sym, ap, _∙_}
 use mathlib.Core.List.{_++_}
-use lib.ListN.{take}
-use lib.Seq.{length-take-le}
-use Rattle.block.specs.Block.{posts}
-use Rattle.lamp.specs.Refusals.{numberOf, placeOf, replyOf}
-use Rattle.lamp.specs.Held.{headRows, listRows, ringRows, rowsFrom, Laid}
-use Rattle.lamp.proofs.Given.{not-both}
-use Rattle.lamp.proofs.Sounds.{entered, laid, part-refused, part-passed, part-none, whole-table, headed-as, accepted-is, ready}
+use Rattle.lamp.specs.Lamp.{headerRows, sumRows}
+use Rattle.lamp.specs.Loaded.{loadRows, loadedRows}
+use Rattle.lamp.proofs.Steps.{counts, passed, refuses, goes-on, never}
+use Rattle.lamp.proofs.Heads.{framed-headed}
+use Rattle.lamp.proofs.Boards.{whole-table}
 
 header-requires : tie.Need-header-requires
 header-requires c κs = search needs
@@ -24,27 +26,26 @@ enum-told c = search needs
 
 returns : tie.Need-returns
 returns c =
-    let s = c .before .before .before .before .before .before .before .before .before .args .s .now in
-    let q = c .enum-told .given .0 .0 in
-    let e = ap replyOf (c .enum-told .given .1) in
-    (part-refused s posts headRows (listRows ++ (ringRows ++ rowsFrom 3 (posts s))) (replyOf (c .before .before .header .result)) (c .before .before .header .ensures) (numberOf q) (placeOf q) e ∙ sym (whole-table s), λ n f. not-both (sym e ∙ f))
+    let heading = c .before .before in
+    let asked = heading .header in
+    let entry = heading .before .before .before .before .before .before .before in
+    let s = entry .args .s .now in
+    let told = c .enum-told .given .1 in
+    (refuses s (headerRows ++ sumRows) (asked .result) (asked .ensures) (loadRows ++ loadedRows s) _ told ∙ whole-table s, λ n. never _ _ n told)
 
 number-requires : tie.Need-number-requires
 number-requires c κs = search needs
 
-load-requires : tie.Need-load-requires
-load-requires c κs =
-    let entry = c .before .before .before .before .before .before .before .before .before .before .before .before .before .before .before in
-    let header = c .before .before .before .before .before .before .before .before .header in
-    let h = c .before .before .before .before .before .before .h in
-    let number = c .before .before .before .before .number in
-    (headed-as (entry .args .s .now) (header .result) (h .given .0 .0) (number .result) (header .ensures) (h .given .1) (number .ensures .0), record { names = entry .pre .0 .names; places = entry .pre .0 .places; all = entry .pre .0 .all }, entry .pre .1)
-
-enum-told-2 : tie.Need-enum-told-2
-enum-told-2 c = search needs
-
-enum-told-3 : tie.Need-enum-told-3
-enum-told-3 c = search needs
+body-requires : tie.Need-body-requires
+body-requires c κs =
+    let counting = c .before .before .before .before .before in
+    let known = counting .before .before in
+    let asked = known .before .before .header in
+    let rows = headerRows ++ sumRows in
+    let told = known .h .given .1 in
+    let is = counting .number .ensures .0 ∙ counts _ rows (asked .result) (asked .ensures) _ told in
+    let H = framed-headed _ _ is (passed _ rows (asked .result) (asked .ensures) _ told) in
+    (H, record { names = search needs; places = search needs; all = search needs }, search needs, search needs)
 
 same-length : tie.Need-same-length
 same-length c = search needs
@@ -58,122 +59,21 @@ same-length-3 c = search needs
 same-length-4 : tie.Need-same-length-4
 same-length-4 c = search needs
 
-returns-2 : tie.Need-returns-2
-returns-2 c =
-    let header = c .before .before .before .before .before .before .before .before .before .before .before .before .before .before .before .before .before .before .before .header in
-    let load = c .before .before .before .before .before .before .before .before .before .before .load in
-    let s = c .before .before .before .before .before .before .before .before .before .before .before .before .before .before .before .before .before .before .before .before .before .before .before .before .before .before .args .s .now in
-    let q = c .enum-told3 .given .0 .0 in
-    let e = ap replyOf (c .enum-told3 .given .1) in (
-      part-refused s posts listRows (ringRows ++ rowsFrom 3 (posts s)) (replyOf (load .result)) (load .ensures .0) (numberOf q) (placeOf q) e
-          ∙ part-passed s posts headRows (listRows ++ (ringRows ++ rowsFrom 3 (posts s))) (replyOf (header .result)) (header .ensures) _ (ap replyOf (c .before .before .before .before .before .before .before .before .before .before .before .before .before .before .before .before .before .h .given .1)) ∙ sym (whole-table s),
-      λ n f. not-both (sym e ∙ f),
-    )
-
-entries-requires : tie.Need-entries-requires
-entries-requires c κs =
-    let header = c .before .before .before .before .before .before .before .before .before .before .before .before .before .before .before .before .before .before .before .header in
-    let h = c .before .before .before .before .before .before .before .before .before .before .before .before .before .before .before .before .before .h in
-    let number = c .before .before .before .before .before .before .before .before .before .before .before .before .before .before .before .number in
-    let H = headed-as (c .before .before .before .before .before .before .before .before .before .before .before .before .before .before .before .before .before .before .before .before .before .before .before .before .before .before .args .s .now) (header .result) (h .given .0 .0) (number .result) (header .ensures) (h .given .1) (number .ensures .0) in (H .least, H .most)
-
-add-p : tie.Need-add-p
-add-p c = search needs
-
-slice-reshare-prefix-order-and-board : tie.Need-slice-reshare-prefix-order-and-board
-slice-reshare-prefix-order-and-board c =
-    let entry = c .before .before .before .before .before .before .before .before .before .before .before .before .before .before .before .before .before .before .before .before .before .before .before .before .before .before .before in
-    let header = c .before .before .before .before .before .before .before .before .before .before .before .before .before .before .before .before .before .before .before .before .header in
-    let h = c .before .before .before .before .before .before .before .before .before .before .before .before .before .before .before .before .before .before .h in
-    let number = c .before .before .before .before .before .before .before .before .before .before .before .before .before .before .before .before .number in
-    let H = headed-as (entry .args .s .now) (header .result) (h .given .0 .0) (number .result) (header .ensures) (h .given .1) (number .ensures .0) in omega (arith, H .most, c .before .before .before .before .before .before .before .before .before .before .vs .given, entry .pre .0 .names)
-
-slice-aggregate-order-and-board : tie.Need-slice-aggregate-order-and-board
-slice-aggregate-order-and-board c =
-    let entry = c .before .before .before .before .before .before .before .before .before .before .before .before .before .before .before .before .before .before .before .before .before .before .before .before .before .before .before .before in
-    let header = c .before .before .before .before .before .before .before .before .before .before .before .before .before .before .before .before .before .before .before .before .before .header in
-    let h = c .before .before .before .before .before .before .before .before .before .before .before .before .before .before .before .before .before .before .before .h in
-    let number = c .before .before .before .before .before .before .before .before .before .before .before .before .before .before .before .before .before .number in
-    let H = headed-as (entry .args .s .now) (header .result) (h .given .0 .0) (number .result) (header .ensures) (h .given .1) (number .ensures .0) in sym (length-take-le _ _ (omega (arith, H .most, c .before .before .before .before .before .before .before .before .before .before .before .vs .given, entry .pre .0 .names)))
-
-slice-reshare-prefix-order-and-board-2 : tie.Need-slice-reshare-prefix-order-and-board-2
-slice-reshare-prefix-order-and-board-2 c =
-    let entry = c .before .before .before .before .before .before .before .before .before .before .before .before .before .before .before .before .before .before .before .before .before .before .before .before .before .before .before .before in
-    let header = c .before .before .before .before .before .before .before .before .before .before .before .before .before .before .before .before .before .before .before .before .before .header in
-    let h = c .before .before .before .before .before .before .before .before .before .before .before .before .before .before .before .before .before .before .before .h in
-    let number = c .before .before .before .before .before .before .before .before .before .before .before .before .before .before .before .before .before .number in
-    let H = headed-as (entry .args .s .now) (header .result) (h .given .0 .0) (number .result) (header .ensures) (h .given .1) (number .ensures .0) in omega (arith, H .most, c .before .before .before .before .before .before .before .at .given, entry .pre .0 .places)
-
-slice-aggregate-order-and-board-2 : tie.Need-slice-aggregate-order-and-board-2
-slice-aggregate-order-and-board-2 c =
-    let entry = c .before .before .before .before .before .before .before .before .before .before .before .before .before .before .before .before .before .before .before .before .before .before .before .before .before .before .before .before .before in
-    let header = c .before .before .before .before .before .before .before .before .before .before .before .before .before .before .before .before .before .before .before .before .before .before .header in
-    let h = c .before .before .before .before .before .before .before .before .before .before .before .before .before .before .before .before .before .before .before .before .h in
-    let number = c .before .before .before .before .before .before .before .before .before .before .before .before .before .before .before .before .before .before .number in
-    let H = headed-as (entry .args .s .now) (header .result) (h .given .0 .0) (number .result) (header .ensures) (h .given .1) (number .ensures .0) in sym (length-take-le _ _ (omega (arith, H .most, c .before .before .before .before .before .before .before .before .at .given, entry .pre .0 .places)))
-
-slice-reshare-prefix-order-and-board-3 : tie.Need-slice-reshare-prefix-order-and-board-3
-slice-reshare-prefix-order-and-board-3 c =
-    let entry = c .before .before .before .before .before .before .before .before .before .before .before .before .before .before .before .before .before .before .before .before .before .before .before .before .before .before .before .before .before in
-    let header = c .before .before .before .before .before .before .before .before .before .before .before .before .before .before .before .before .before .before .before .before .before .before .header in
-    let h = c .before .before .before .before .before .before .before .before .before .before .before .before .before .before .before .before .before .before .before .before .h in
-    let number = c .before .before .before .before .before .before .before .before .before .before .before .before .before .before .before .before .before .before .number in
-    let H = headed-as (entry .args .s .now) (header .result) (h .given .0 .0) (number .result) (header .ensures) (h .given .1) (number .ensures .0) in omega (arith, H .most, H .least, c .before .before .entries .ensures, c .before .before .before .before .before .before .ents .given, entry .pre .0 .all)
-
-slice-aggregate-order-and-board-3 : tie.Need-slice-aggregate-order-and-board-3
-slice-aggregate-order-and-board-3 c =
-    let entry = c .before .before .before .before .before .before .before .before .before .before .before .before .before .before .before .before .before .before .before .before .before .before .before .before .before .before .before .before .before .before in
-    let header = c .before .before .before .before .before .before .before .before .before .before .before .before .before .before .before .before .before .before .before .before .before .before .before .header in
-    let h = c .before .before .before .before .before .before .before .before .before .before .before .before .before .before .before .before .before .before .before .before .before .h in
-    let number = c .before .before .before .before .before .before .before .before .before .before .before .before .before .before .before .before .before .before .before .number in
-    let H = headed-as (entry .args .s .now) (header .result) (h .given .0 .0) (number .result) (header .ensures) (h .given .1) (number .ensures .0) in sym (length-take-le _ _ (omega (arith, H .most, H .least, c .before .before .before .entries .ensures, c .before .before .before .before .before .before .before .ents .given, entry .pre .0 .all)))
-
-order-and-board-requires : tie.Need-order-and-board-requires
-order-and-board-requires c κs =
-    let entry = c .before .before .before .before .before .before .before .before .before .before .before .before .before .before .before .before .before .before .before .before .before .before .before .before .before .before .before .before .before .before .before in
-    let header = c .before .before .before .before .before .before .before .before .before .before .before .before .before .before .before .before .before .before .before .before .before .before .before .before .header in
-    let h = c .before .before .before .before .before .before .before .before .before .before .before .before .before .before .before .before .before .before .before .before .before .before .h in
-    let number = c .before .before .before .before .before .before .before .before .before .before .before .before .before .before .before .before .before .before .before .before .number in
-    let load = c .before .before .before .before .before .before .before .before .before .before .before .before .before .before .before .load in
-    let s = entry .args .s .now in
-    let H = headed-as (entry .args .s .now) (header .result) (h .given .0 .0) (number .result) (header .ensures) (h .given .1) (number .ensures .0) in
-    let told = ap replyOf (c .before .before .before .before .before .enum-told2 .given .1) in
-    let L = laid s (number .result) (load .last .1 .1 .0) (load .last .1 .1 .1 .1 .0) (load .last .1 .1 .1 .1 .1 .0) H (omega (arith, c .before .before .before .before .before .before .before .before .before .before .at .given, entry .pre .0 .places)) (load .ensures .1 _ told) in (
-      subst⁻¹ (λ (m : ℕ). Laid s (take (number .result) (load .last .1 .1 .0)) (take (number .result + 1) (load .last .1 .1 .1 .1 .0)) (take m (load .last .1 .1 .1 .1 .1 .0))) (c .before .before .before .before .entries .ensures) L,
-      entry .pre .2,
-      entered s (part-none s posts listRows (ringRows ++ rowsFrom 3 (posts s)) (replyOf (load .result)) (load .ensures .0) _ told),
-    )
-
 same-length-5 : tie.Need-same-length-5
 same-length-5 c = search needs
 
-same-length-6 : tie.Need-same-length-6
-same-length-6 c = search needs
-
-same-length-7 : tie.Need-same-length-7
-same-length-7 c = search needs
-
-same-length-8 : tie.Need-same-length-8
-same-length-8 c = search needs
-
-same-length-9 : tie.Need-same-length-9
-same-length-9 c = search needs
-
-returns-3 : tie.Need-returns-3
-returns-3 c =
-    let entry = c .before .before .before .before .before .before .before .before .before .before .before .before .before .before .before .before .before .before .before .before .before .before .before .before .before .before .before .before .before .before .before .before .before .before in
-    let header = c .before .before .before .before .before .before .before .before .before .before .before .before .before .before .before .before .before .before .before .before .before .before .before .before .before .before .before .header in
-    let h = c .before .before .before .before .before .before .before .before .before .before .before .before .before .before .before .before .before .before .before .before .before .before .before .before .before .h in
-    let number = c .before .before .before .before .before .before .before .before .before .before .before .before .before .before .before .before .before .before .before .before .before .before .before .number in
-    let load = c .before .before .before .before .before .before .before .before .before .before .before .before .before .before .before .before .before .before .load in
+returns-2 : tie.Need-returns-2
+returns-2 c =
+    let back = c .before .before .before .before .before in
+    let doing = back .before .before .before .before .before in
+    let lent = doing .before .before .before .before .before .before in
+    let known = lent .before .before in
+    let heading = known .before .before in
+    let entry = heading .before .before .before .before .before .before .before in
     let s = entry .args .s .now in
-    let H = headed-as (entry .args .s .now) (header .result) (h .given .0 .0) (number .result) (header .ensures) (h .given .1) (number .ensures .0) in
-    let told = ap replyOf (c .before .before .before .before .before .before .before .before .enum-told2 .given .1) in (
-      c .before .before .order-and-board .ensures .0
-          ∙ part-passed s posts listRows (ringRows ++ rowsFrom 3 (posts s)) (replyOf (load .result)) (load .ensures .0) _ told
-          ∙ part-passed s posts headRows (listRows ++ (ringRows ++ rowsFrom 3 (posts s))) (replyOf (header .result)) (header .ensures) _ (ap replyOf (h .given .1)) ∙ sym (whole-table s),
-      λ n f. ready s (number .result) n (load .last .1 .1 .0) (load .last .1 .1 .1 .1 .0) (load .last .1 .1 .1 .1 .1 .0) (c .before .before .order-and-board .last .1 .1 .1 .1 .0) H (load .ensures .1 _ told) (c .before .before .order-and-board .ensures .1 n f) (accepted-is s posts (ringRows ++ rowsFrom 3 (posts s)) n (sym (c .before .before .order-and-board .ensures .0) ∙ f)),
-    )
+    let asked = heading .header in
+    let past = goes-on s (headerRows ++ sumRows) (asked .result) (asked .ensures) (loadRows ++ loadedRows s) _ (known .h .given .1) in
+    (doing .body .ensures .0 ∙ past ∙ whole-table s, doing .body .ensures .1)
 
 pub check-into-spec : {M : Type 1} → statement M
 check-into-spec =
@@ -184,26 +84,10 @@ check-into-spec =
     enum-told
     returns
     number-requires
-    load-requires
-    enum-told-2
-    enum-told-3
+    body-requires
     same-length
     same-length-2
     same-length-3
     same-length-4
-    returns-2
-    entries-requires
-    add-p
-    slice-reshare-prefix-order-and-board
-    slice-aggregate-order-and-board
-    slice-reshare-prefix-order-and-board-2
-    slice-aggregate-order-and-board-2
-    slice-reshare-prefix-order-and-board-3
-    slice-aggregate-order-and-board-3
-    order-and-board-requires
     same-length-5
-    same-length-6
-    same-length-7
-    same-length-8
-    same-length-9
-    returns-3)
+    returns-2)

@@ -1,33 +1,46 @@
 use borrow.Author.Needs.{needs}
 use Rattle.lamp.proofs.load.Statement.{statement}
 use Rattle.lamp.proofs.load.Tie as tie
+use Rattle.lamp.proofs.load.Reads as reads
+use Rattle.lamp.proofs.load.Lts as lts
+use Rattle.lamp.proofs.degrees_in.Reads as degrees-in-reads
+use Rattle.lamp.proofs.order_in.Reads as order-in-reads
+use Rattle.rings.proofs.read_lists.Reads as read-lists-reads
 use native.Mathlib.Omega.{arith}
-use mathlib.Core.Path.{sym, ap, _∙_}
+use mathlib.Core.Path.{_≡_, sym, ap, _∙_}
 use Rattle.words.specs.Numbers.{sumOf}
+use Rattle.block.specs.Layout.{entries}
 use Rattle.rings.proofs.Read.{degrees-count}
-use Rattle.lamp.proofs.Given.{not-both}
-use Rattle.lamp.proofs.Loads.{list-order, list-degree, list-total, list-fine}
+use Rattle.lamp.specs.Lamp.{orderRows, degreeRows}
+use Rattle.lamp.proofs.Steps.{passed, refuses, goes-on, never}
+use Rattle.lamp.proofs.Loads.{totalled}
 
-read-order-requires : tie.Need-read-order-requires
-read-order-requires c κs = search needs
+order-in-requires : tie.Need-order-in-requires
+order-in-requires c κs = search needs
 
-cast-t13 : tie.Need-cast-t13
-cast-t13 c = search needs
+enum-told : tie.Need-enum-told
+enum-told c = search needs
+
+enum-told-2 : tie.Need-enum-told-2
+enum-told-2 c = search needs
 
 same-length : tie.Need-same-length
 same-length c = search needs
 
 returns : tie.Need-returns
 returns c =
-    let entry = c .before .before .before .before .before .before .before .before .before .before in
-    let read-order = c .before .before .before .read-order in
-    (list-order (entry .args .s .now) (entry .args .b .n) (entry .pre .0 .is) (read-order .result) (read-order .ensures .1) (c .if1 .taken), λ n e. not-both e)
+    let ordered = c .before .before .before .before .order-in in
+    let told = c .enum-told2 .given .1 in
+    (refuses _ orderRows (ordered .result) (ordered .ensures .0) degreeRows _ told, λ n. never _ _ n told)
 
-read-degrees-requires : tie.Need-read-degrees-requires
-read-degrees-requires c κs = search needs
+degrees-in-requires : tie.Need-degrees-in-requires
+degrees-in-requires c κs = search needs
 
-cast-t17 : tie.Need-cast-t17
-cast-t17 c = search needs
+enum-told-3 : tie.Need-enum-told-3
+enum-told-3 c = search needs
+
+enum-told-4 : tie.Need-enum-told-4
+enum-told-4 c = search needs
 
 same-length-2 : tie.Need-same-length-2
 same-length-2 c = search needs
@@ -37,29 +50,35 @@ same-length-3 c = search needs
 
 returns-2 : tie.Need-returns-2
 returns-2 c =
-    let entry = c .before .before .before .before .before .before .before .before .before .before .before .before .before .before .before in
-    let read-order = c .before .before .before .before .before .before .before .before .read-order in
-    let read-degrees = c .before .before .before .read-degrees in
-    (list-degree (entry .args .s .now) (entry .args .b .n) (entry .pre .0 .is) (read-order .result) (read-order .ensures .1) (c .before .before .before .before .before .if1 .left) (read-degrees .result) (read-degrees .ensures .1) (c .if2 .taken), λ n e. not-both e)
+    let counted = c .before .before .before .before .degrees-in in
+    let past = c .before .before .before .before .before .before in
+    let ordered = past .before .before .before .before .order-in in
+    let told = c .enum-told4 .given .1 in
+    let stop = refuses _ degreeRows (counted .result) (counted .ensures .0) _ _ told in
+    let on = goes-on _ orderRows (ordered .result) (ordered .ensures .0) degreeRows _ (past .enum-told .given .1) in
+    (stop ∙ on, λ n. never _ _ n told)
 
-slice-reshare-prefix-total : tie.Need-slice-reshare-prefix-total
-slice-reshare-prefix-total c = search needs
+slice-reshare-prefix-read-lists : tie.Need-slice-reshare-prefix-read-lists
+slice-reshare-prefix-read-lists c = search needs
 
-slice-aggregate-total : tie.Need-slice-aggregate-total
-slice-aggregate-total c =
-    let entry = c .before .before .before .before .before .before .before .before .before .before .before .before .before .before .before .before in
-    entry .pre .0 .is ∙ sym (degrees-count (entry .args .s .now) _ (c .before .before .before .before .read-degrees .ensures .0))
+slice-aggregate-read-lists : tie.Need-slice-aggregate-read-lists
+slice-aggregate-read-lists c =
+    let counting = c .before .before .before .before .before in
+    let ordering = counting .before .before .before .before .before .before in
+    let entry = ordering .before .before .before .before .before .before .before in
+    entry .pre .0 .is ∙ sym (degrees-count (entry .args .s .now) _ (counting .degrees-in .ensures .1))
 
-total-requires : tie.Need-total-requires
-total-requires c κs =
-    let entry = c .before .before .before .before .before .before .before .before .before .before .before .before .before .before .before .before in
-    omega (arith, degrees-count (entry .args .s .now) _ (c .before .before .before .before .read-degrees .ensures .0), entry .pre .0 .is, entry .pre .0 .most)
-
-entries-requires : tie.Need-entries-requires
-entries-requires c κs = search needs
-
-cast-t23 : tie.Need-cast-t23
-cast-t23 c = search needs
+read-lists-requires : tie.Need-read-lists-requires
+read-lists-requires c κs =
+    let past = c .before .before .before in
+    let counting = past .before .before .before .before in
+    let ordering = counting .before .before .before .before .before .before in
+    let entry = ordering .before .before .before .before .before .before .before in
+    let H = entry .pre .0 in
+    let counted = counting .degrees-in in
+    let none = passed _ degreeRows (counted .result) (counted .ensures .0) _ (past .enum-told3 .given .1) in
+    let total = ap sumOf (counted .ensures .1) ∙ totalled _ none ∙ ap entries (sym (H .is)) in
+    (H, counted .ensures .1, total, omega (arith, entry .pre .1 .places), omega (arith, entry .pre .1 .all))
 
 same-length-4 : tie.Need-same-length-4
 same-length-4 c = search needs
@@ -67,78 +86,45 @@ same-length-4 c = search needs
 same-length-5 : tie.Need-same-length-5
 same-length-5 c = search needs
 
-returns-3 : tie.Need-returns-3
-returns-3 c =
-    let entry = c .before .before .before .before .before .before .before .before .before .before .before .before .before .before .before .before .before .before .before in
-    let read-order = c .before .before .before .before .before .before .before .before .before .before .before .before .read-order in
-    let read-degrees = c .before .before .before .before .before .before .before .read-degrees in
-    (list-total (entry .args .s .now) (entry .args .b .n) (entry .pre .0 .is) (read-order .result) (read-order .ensures .1) (c .before .before .before .before .before .before .before .before .before .if1 .left) (read-degrees .result) (read-degrees .ensures .1) (c .before .before .before .before .if2 .left) (c .before .before .total .result) (c .before .entries .result) (c .before .before .total .ensures ∙ ap sumOf (read-degrees .ensures .0)) (c .before .entries .ensures) (c .if3 .taken), λ n e. not-both e)
-
-slice-reshare-prefix-read-lists : tie.Need-slice-reshare-prefix-read-lists
-slice-reshare-prefix-read-lists c = search needs
-
-slice-aggregate-read-lists : tie.Need-slice-aggregate-read-lists
-slice-aggregate-read-lists c =
-    let entry = c .before .before .before .before .before .before .before .before .before .before .before .before .before .before .before .before .before .before .before .before in
-    entry .pre .0 .is ∙ sym (degrees-count (entry .args .s .now) _ (c .before .before .before .before .before .before .before .before .read-degrees .ensures .0))
-
-read-lists-requires : tie.Need-read-lists-requires
-read-lists-requires c κs =
-    let entry = c .before .before .before .before .before .before .before .before .before .before .before .before .before .before .before .before .before .before .before .before .before .before in
-    (entry .pre .0 .is, entry .pre .0 .most, entry .pre .0 .least, entry .pre .0 .sized, c .before .before .before .before .before .before .before .before .before .before .read-degrees .ensures .0, sym (c .before .before .before .before .before .total .ensures) ∙ c .before .before .before .if3 .left ∙ c .before .before .before .before .entries .ensures, omega (arith, entry .pre .1 .places), omega (arith, entry .pre .1 .all))
-
-cast-t32 : tie.Need-cast-t32
-cast-t32 c = search needs
-
 same-length-6 : tie.Need-same-length-6
 same-length-6 c = search needs
 
 same-length-7 : tie.Need-same-length-7
 same-length-7 c = search needs
 
-same-length-8 : tie.Need-same-length-8
-same-length-8 c = search needs
-
-same-length-9 : tie.Need-same-length-9
-same-length-9 c = search needs
-
-returns-4 : tie.Need-returns-4
-returns-4 c =
-    let entry = c .before .before .before .before .before .before .before .before .before .before .before .before .before .before .before .before .before .before .before .before .before .before .before .before .before .before .before in
-    let read-order = c .before .before .before .before .before .before .before .before .before .before .before .before .before .before .before .before .before .before .before .before .read-order in
-    let read-degrees = c .before .before .before .before .before .before .before .before .before .before .before .before .before .before .before .read-degrees in
-    let total = c .before .before .before .before .before .before .before .before .before .before .total in
-    let the-entries = c .before .before .before .before .before .before .before .before .before .entries in
-    let read-lists = c .before .before .before .before .read-lists in
-    (list-fine (entry .args .s .now) (entry .args .b .n) (entry .pre .0 .is) (read-order .result) (read-order .ensures .1) (c .before .before .before .before .before .before .before .before .before .before .before .before .before .before .before .before .before .if1 .left) (read-degrees .result) (read-degrees .ensures .1) (c .before .before .before .before .before .before .before .before .before .before .before .before .if2 .left) (total .result) (the-entries .result) (total .ensures ∙ ap sumOf (read-degrees .ensures .0)) (the-entries .ensures) (c .before .before .before .before .before .before .before .before .if3 .left), λ n e. record { orders = read-order .ensures .0; rings = read-lists .ensures .0; cuts = read-lists .ensures .1 })
+returns-3 : tie.Need-returns-3
+returns-3 c =
+    let reading = c .before .before .before .before in
+    let lists = reading .read-lists in
+    let past = reading .before .before .before .before in
+    let counting = past .before .before .before .before in
+    let passing = counting .before .before in
+    let ordered = passing .before .before .before .before .order-in in
+    let counted = counting .degrees-in in (
+      counted .ensures .0 ∙ goes-on _ orderRows (ordered .result) (ordered .ensures .0) degreeRows _ (passing .enum-told .given .1),
+      λ n e. record { orders = ordered .ensures .1; rings = lists .ensures .0; cuts = lists .ensures .1 },
+    )
 
 pub load-spec : {M : Type 1} → statement M
 load-spec =
     tie.close
     (tie.spec
-    read-order-requires
-    cast-t13
+    order-in-requires
+    enum-told
+    enum-told-2
     same-length
     returns
-    read-degrees-requires
-    cast-t17
+    degrees-in-requires
+    enum-told-3
+    enum-told-4
     same-length-2
     same-length-3
     returns-2
-    slice-reshare-prefix-total
-    slice-aggregate-total
-    total-requires
-    entries-requires
-    cast-t23
-    same-length-4
-    same-length-5
-    returns-3
     slice-reshare-prefix-read-lists
     slice-aggregate-read-lists
     read-lists-requires
-    cast-t32
+    same-length-4
+    same-length-5
     same-length-6
     same-length-7
-    same-length-8
-    same-length-9
-    returns-4)
+    returns-3)

@@ -1,17 +1,24 @@
 use borrow.Author.Needs.{needs}
 use Rattle.lamp.proofs.order_and_board.Statement.{statement}
 use Rattle.lamp.proofs.order_and_board.Tie as tie
+use Rattle.lamp.proofs.order_and_board.Reads as reads
+use Rattle.lamp.proofs.order_and_board.Lts as lts
+use Rattle.lamp.proofs.board.board.Reads as board-reads
+use Rattle.lamp.proofs.board.fitting.Reads as fitting-reads
+use Rattle.order.proofs.ranks.Reads as ranks-reads
 use native.Mathlib.Omega.{arith}
 use Prim.Native.Nat.{ℕ}
 use mathlib.Core.Path.{sym, ap, _∙_, subst}
-use mathlib.Core.List.{List}
+use mathlib.Core.List.{List, _++_}
 use Rattle.block.specs.Block.{posts}
 use Rattle.order.specs.Ranked.{Ranked}
+use Rattle.lamp.specs.Lamp.{ringRows, triangleRows, outerRows}
 use Rattle.lamp.specs.Given.{given}
-use Rattle.lamp.specs.Refusals.{numberOf, placeOf, replyOf}
-use Rattle.lamp.specs.Held.{ringRows, rowsFrom}
-use Rattle.lamp.proofs.Given.{not-both}
-use Rattle.lamp.proofs.Sounds.{ringed, part-refused, part-passed, part-none, entries-of}
+use Rattle.lamp.specs.Loaded.{boardRows, rowsFrom}
+use Rattle.lamp.proofs.Given.{none-left}
+use Rattle.lamp.proofs.Steps.{passed, refuses, goes-on, never}
+use Rattle.lamp.proofs.Loads.{entered-in}
+use Rattle.lamp.proofs.Boards.{ringed}
 
 board-requires : tie.Need-board-requires
 board-requires c κs = search needs
@@ -24,33 +31,42 @@ enum-told-2 c = search needs
 
 returns : tie.Need-returns
 returns c =
-    let entry = c .before .before .before .before .before .before .before .before in
-    let q = c .enum-told2 .given .0 .0 in
-    let e = ap replyOf (c .enum-told2 .given .1) in
-    (part-refused (entry .args .s .now) posts ringRows (rowsFrom 3 (posts (entry .args .s .now))) (replyOf (c .before .before .board .result)) (c .before .before .board .ensures) (numberOf q) (placeOf q) e, λ n f. not-both (sym e ∙ f))
+    let asked = c .before .before .board in
+    let told = c .enum-told2 .given .1 in
+    (refuses _ boardRows (asked .result) (asked .ensures) _ _ told, λ n. never _ _ n told)
 
 ranks-requires : tie.Need-ranks-requires
 ranks-requires c κs =
-    let entry = c .before .before .before .before .before .before .before .before .before in
-    (entry .pre .0 .headed .most, omega (arith, entry .pre .1, entry .pre .0 .headed .most), entries-of (entry .args .s .now) (entry .args .vs .now) (entry .pre .0 .headed .is) (entry .pre .0 .orders) (entry .pre .2))
+    let past = c .before in
+    let asking = past .before .before in
+    let entry = asking .before .before .before .before .before .before in
+    let L = entry .pre .0 in
+    (L .headed .most, omega (arith, entry .pre .1, L .headed .most), entered-in _ _ (L .headed .is) (L .orders) (entry .pre .2))
 
 fitting-requires : tie.Need-fitting-requires
 fitting-requires c κs =
-    let entry = c .before .before .before .before .before .before .before .before .before .before .before .before .before in
-    let board = c .before .before .before .before .before .before .before .board in
-    (entry .pre .0, c .before .before .before .ranks .ensures, ringed (entry .args .s .now) (entry .pre .2) (part-none (entry .args .s .now) posts ringRows (rowsFrom 3 (posts (entry .args .s .now))) (replyOf (board .result)) (board .ensures) _ (ap replyOf (c .before .before .before .before .before .enum-told .given .1))))
+    let past = c .before .before .before .before .before in
+    let asking = past .before .before in
+    let asked = asking .board in
+    let entry = asking .before .before .before .before .before .before in
+    let none = passed _ boardRows (asked .result) (asked .ensures) _ (past .enum-told .given .1) in
+    let fine = ringed _ (entry .pre .2) (none-left ringRows (triangleRows ++ outerRows) _ none) in
+    (entry .pre .0, c .before .before .before .ranks .ensures, fine)
 
 same-length : tie.Need-same-length
 same-length c = search needs
 
 returns-2 : tie.Need-returns-2
 returns-2 c =
-    let entry = c .before .before .before .before .before .before .before .before .before .before .before .before .before .before in
-    let board = c .before .before .before .before .before .before .before .before .board in
-    let ranks = c .before .before .before .before .ranks in
-    let s = entry .args .s .now in (
-      c .fitting .ensures ∙ ap (λ (n : ℕ). given (rowsFrom 3 n) s posts) (entry .pre .0 .headed .is) ∙ part-passed s posts ringRows (rowsFrom 3 (posts s)) (replyOf (board .result)) (board .ensures) _ (ap replyOf (c .before .before .before .before .before .before .enum-told .given .1)),
-      λ n f. subst (λ (l : List ℕ). Ranked l (ranks .last .1 .0)) (entry .pre .0 .orders) (ranks .ensures),
+    let past = c .before .before .before .before .before .before in
+    let ranked = c .before .before .before .before .ranks in
+    let asking = past .before .before in
+    let asked = asking .board in
+    let entry = asking .before .before .before .before .before .before in
+    let s = entry .args .s .now in
+    let rest = ap (λ (n : ℕ). given (rowsFrom 3 n) s posts) (entry .pre .0 .headed .is) in (
+      c .fitting .ensures ∙ rest ∙ goes-on s boardRows (asked .result) (asked .ensures) (rowsFrom 3 (posts s)) _ (past .enum-told .given .1),
+      λ n f. subst (λ (l : List ℕ). Ranked l (ranked .last .1 .0)) (entry .pre .0 .orders) (ranked .ensures),
     )
 
 pub order-and-board-spec : {M : Type 1} → statement M

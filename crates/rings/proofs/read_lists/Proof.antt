@@ -11,7 +11,7 @@ use Rattle.rings.proofs.Read.{read-lists, read-cuts, degrees-count}
 starts-requires : tie.Need-starts-requires
 starts-requires c κs =
     let entry = c .before .before .before .before .before in
-    (omega (arith, degrees-count (entry .args .s .now) (entry .args .ds .now) (entry .pre .4)), omega (arith, entry .pre .5))
+    (omega (arith, degrees-count (entry .args .s .now) (entry .args .ds .now) (entry .pre .1)), omega (arith, entry .pre .2))
 
 lists-at-requires : tie.Need-lists-at-requires
 lists-at-requires c κs = search needs
@@ -30,15 +30,23 @@ same-length-2 c = search needs
 
 returns : tie.Need-returns
 returns c =
-    let entry = c .before .before .before .before .before .before .before .before .before .before .before .before .before .before in
-    let starts = c .before .before .before .before .before .before .before .before .starts in
-    let lists-at = c .before .before .before .before .before .lists-at in
-    let the-entries = c .before .before .before .before .entries in
+    let unpack = c .before .before .unpack in
+    let counted = c .before .before .before .before in
+    let begun = counted .before .before .before .before in
+    let entry = begun .before .before .before .before .before .before in
+    let starts = begun .starts in
+    let lists-at = counted .before .lists-at in
+    let s = entry .args .s .now in
     let n = entry .args .b .n in
-    let m : the-entries .result ≡ entries n = the-entries .ensures in
-    let room : n < length (starts .last .1 .0) = omega (arith, c .before .before .before .before .before .before .before .at .given) in
-    let args-are = (read-lists (entry .args .s .now) (starts .last .1 .0) (c .before .before .unpack .last .1 .1 .1 .0) (entry .args .ds .now) n (lists-at .result) (entry .pre .0) (lists-at .ensures) (entry .pre .4) (entry .pre .5) room (starts .ensures) (rw m at (c .before .before .unpack .ensures))) in
-    (args-are, read-cuts (entry .args .s .now) (starts .last .1 .0) (c .before .before .unpack .last .1 .1 .1 .0) (entry .args .ds .now) n (lists-at .result) (entry .pre .0) (lists-at .ensures) (entry .pre .4) (entry .pre .5) room (starts .ensures) (rw m at (c .before .before .unpack .ensures)))
+    let ds = entry .args .ds .now in
+    let at = starts .last .1 .0 in
+    let ents = unpack .last .1 .1 .1 .0 in
+    let m : counted .entries .result ≡ entries n = counted .entries .ensures in
+    let room : n < length at = omega (arith, counted .before .before .before .at .given) in
+    let read = rw m at (unpack .ensures) in (
+      read-lists s at ents ds n (lists-at .result) (entry .pre .0 .is) (lists-at .ensures) (entry .pre .1) (entry .pre .2) room (starts .ensures) read,
+      read-cuts s at ents ds n (lists-at .result) (entry .pre .0 .is) (lists-at .ensures) (entry .pre .1) (entry .pre .2) room (starts .ensures) read,
+    )
 
 pub read-lists-spec : {M : Type 1} → statement M
 read-lists-spec =

@@ -4,9 +4,9 @@ use Rattle.unit.proofs.post.Tie as tie
 use native.Mathlib.Omega.{arith}
 use Prim.Native.Nat.{ℕ}
 use mathlib.Core.Path.{sym, ap, _∙_, subst, subst⁻¹}
-use Rattle.lamp.specs.Given.{accepted}
-use Rattle.lamp.specs.Refusals.{numberOf, placeOf, replyOf}
-use Rattle.lamp.specs.Held.{Ready}
+use Rattle.lamp.specs.Given.{accepted, replyOf}
+use Rattle.lamp.specs.Refusals.{numberOf, placeOf}
+use Rattle.lamp.specs.Loaded.{Checked}
 use Rattle.unit.proofs.Calls.{post-refused}
 
 no-names-requires : tie.Need-no-names-requires
@@ -68,7 +68,7 @@ post-of-requires c κs =
     let check-into = c .before .before .before .before .before .before .before .before .before .before .before .before .before .check-into in
     let r2 = c .before .before .before .before .before .before .r2 in
     let number = c .before .before .before .before .number in
-    ((sym (check-into .ensures .0) ∙ ap replyOf (r2 .given .1) ∙ ap accepted (sym (number .ensures .0))), (subst⁻¹ (λ (m : ℕ). Ready (c .before .before .before .before .before .before .before .before .before .before .before .before .before .before .before .before .before .before .before .before .before .before .before .before .before .args .s .now) m (check-into .last .1 .0) (check-into .last .1 .1 .1 .0) (check-into .last .1 .1 .1 .1 .0) (check-into .last .1 .1 .1 .1 .1 .0)) (number .ensures .0) (check-into .ensures .1 (r2 .given .0 .0) (ap replyOf (r2 .given .1)))), record { names = omega (arith, c .before .before .before .before .before .before .before .before .before .before .before .before .before .before .before .before .before .before .before .before .before .before .before .no-names .ensures, c .before .before .before .before .before .before .before .before .before .before .before .before .vs2 .given); places = omega (arith, c .before .before .before .before .before .before .before .before .before .before .before .before .before .before .before .before .before .before .before .before .before .no-places .ensures, c .before .before .before .before .before .before .before .before .before .before .at2 .given); all = omega (arith, c .before .before .before .before .before .before .before .before .before .before .before .before .before .before .before .before .before .before .before .before .no-entries .ensures, c .before .before .before .before .before .before .before .before .before .ents2 .given) })
+    ((sym (check-into .ensures .0) ∙ ap replyOf (r2 .given .1) ∙ ap accepted (sym (number .ensures .0))), (subst⁻¹ (λ (m : ℕ). Checked (c .before .before .before .before .before .before .before .before .before .before .before .before .before .before .before .before .before .before .before .before .before .before .before .before .before .args .s .now) m (check-into .last .1 .0) (check-into .last .1 .1 .1 .0) (check-into .last .1 .1 .1 .1 .0) (check-into .last .1 .1 .1 .1 .1 .0)) (number .ensures .0) (check-into .ensures .1 (r2 .given .0 .0) (ap replyOf (r2 .given .1)))), record { names = omega (arith, c .before .before .before .before .before .before .before .before .before .before .before .before .before .before .before .before .before .before .before .before .before .before .before .no-names .ensures, c .before .before .before .before .before .before .before .before .before .before .before .before .vs2 .given); places = omega (arith, c .before .before .before .before .before .before .before .before .before .before .before .before .before .before .before .before .before .before .before .before .before .no-places .ensures, c .before .before .before .before .before .before .before .before .before .before .at2 .given); all = omega (arith, c .before .before .before .before .before .before .before .before .before .before .before .before .before .before .before .before .before .before .before .before .no-entries .ensures, c .before .before .before .before .before .before .before .before .before .ents2 .given) })
 
 returns : tie.Need-returns
 returns c =

@@ -1,15 +1,17 @@
-use Rattle.lamp.proofs.fitting.Statement.{statement}
-use Rattle.lamp.proofs.fitting.Tie as tie
+use Rattle.lamp.proofs.board.fitting.Statement.{statement}
+use Rattle.lamp.proofs.board.fitting.Tie as tie
 use native.Mathlib.Omega.{arith}
 use Prim.Native.Nat.{_+_, _-_, _≤_}
 use mathlib.Core.Path.{_≡_, refl, sym, ap, _∙_}
+use mathlib.Core.List.{List}
 use lib.ListN.{length}
 use Rattle.block.specs.Block.{posts}
-use Rattle.lamp.specs.Given.{accepted, given}
-use Rattle.lamp.specs.Refusals.{numberOf, placeOf, replyOf}
-use Rattle.lamp.specs.Held.{rowsFrom}
+use Rattle.lamp.specs.Lamp.{Row}
+use Rattle.lamp.specs.Given.{accepted, replyOf, given}
+use Rattle.lamp.specs.Refusals.{numberOf, placeOf}
+use Rattle.lamp.specs.Loaded.{rowsFrom}
 use Rattle.lamp.proofs.Given.{given-end}
-use Rattle.lamp.proofs.Rows.{rows-refused, rows-passed, rows-end}
+use Rattle.lamp.proofs.Boards.{rows-refused, rows-passed, rows-end}
 use borrow.Author.Needs.{needs}
 
 abbrev Inv-loop : tie.InvT-loop
@@ -31,10 +33,10 @@ enum-known-r c = search needs
 
 returns : tie.Need-returns Inv-loop μ-loop
 returns c =
-    let entry = c .before .before .before .before .before .before .before .before .before .before .before in
     let v = c .before .before .before .before .before .loop in
-    let q = c .before .r .given .0 .0 in
-    sym (v .inv .2 ∙ rows-refused (entry .args .s .now) (v .k) (length (entry .args .vs .now)) (omega arith) (numberOf q) (placeOf q) (sym (c .before .before .before .position .ensures) ∙ ap replyOf (c .before .r .given .1)))
+    let told = c .before .r .given in
+    let given = sym (c .before .before .before .position .ensures) ∙ ap replyOf (told .1) in
+    sym (v .inv .2 ∙ rows-refused _ (v .k) _ (omega arith) (numberOf (told .0 .0)) (placeOf (told .0 .0)) given)
 
 enum-told : tie.Need-enum-told Inv-loop μ-loop
 enum-told c = search needs
@@ -47,19 +49,20 @@ loop-less c = search needs
 
 loop-again : tie.Need-loop-again Inv-loop μ-loop
 loop-again c =
-    let entry = c .before .before .before .before .before .before .before .before .before .before in
     let v = c .before .before .before .before .loop in
-    (search needs, search needs, v .inv .2 ∙ rows-passed (entry .args .s .now) (v .k) (length (entry .args .vs .now)) (omega arith) (c .enum-told .given .0 .0) (sym (c .before .before .position .ensures) ∙ ap replyOf (c .enum-told .given .1)))
+    let given = sym (c .before .before .position .ensures) ∙ ap replyOf (c .enum-told .given .1) in
+    (search needs, search needs, v .inv .2 ∙ rows-passed _ (v .k) _ (omega arith) _ given)
 
 cast-t11 : tie.Need-cast-t11 Inv-loop μ-loop
 cast-t11 c = omega (arith, c .before .before .before .before .before .before .before .pre .0 .headed .most)
 
 returns-2 : tie.Need-returns-2 Inv-loop μ-loop
 returns-2 c =
-    let entry = c .before .before .before .before .before .before .before in
     let v = c .before .loop in
-    let n = length (entry .args .vs .now) in
-    sym (v .inv .2 ∙ ap (λ (rows : _). given rows (entry .args .s .now) posts) (rows-end (v .k) n (omega arith)) ∙ given-end (entry .args .s .now) posts ∙ ap accepted (sym (entry .pre .0 .headed .is)))
+    let entry = c .before .before .before .before .before .before .before in
+    let s = entry .args .s .now in
+    let none = ap (λ (rows : List Row). given rows s posts) (rows-end (v .k) (length (entry .args .vs .now)) (omega arith)) in
+    sym (v .inv .2 ∙ none ∙ given-end s posts ∙ ap accepted (sym (entry .pre .0 .headed .is)))
 
 pub fitting-spec : {M : Type 1} → statement M
 fitting-spec =

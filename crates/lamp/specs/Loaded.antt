@@ -1,0 +1,74 @@
+-- How the services hold a block whose header is right: its order, its lists, and the positions by name, each at the front of a longer array.
+use Prim.Native.Nat.{ℕ, _+_, _-_, _≤_, _<_}
+use mathlib.Core.Path.{_≡_}
+use mathlib.Core.Bool.{true, false}
+use mathlib.Core.List.{List, _++_, flatMap}
+use lib.ListN.{length, take}
+use Rattle.words.specs.First.{numbers}
+use Rattle.block.specs.Layout.{limit, entries}
+use Rattle.block.specs.Block.{posts, order, lists, badEntry, Headed}
+use Rattle.rings.specs.Rings.{ringRule}
+use Rattle.rings.specs.Held.{held, Cuts}
+use Rattle.order.specs.Ranked.{Ranked}
+use Rattle.lamp.specs.Lamp.{Row, orderRows, degreeRows, ringRows, triangleRows, outerRows, positionRows}
+use Rattle.lamp.specs.Given.{accepted, replyOf}
+use Rattle.lamp.specs.declared.Answer.{Answer}
+
+-- the rule per position, from position k on
+abbrev pub rowsFrom : ℕ → ℕ → List Row
+rowsFrom k n = flatMap positionRows (numbers k (n + 1 - k))
+
+-- the groups that are tried together: in loading, over the loaded lists, and all that is asked once they are loaded
+abbrev pub loadRows : List Row
+loadRows = orderRows ++ degreeRows
+
+abbrev pub boardRows : List Row
+boardRows = ringRows ++ triangleRows ++ outerRows
+
+abbrev pub loadedRows : List ℕ → List Row
+loadedRows s = boardRows ++ rowsFrom 3 (posts s)
+
+-- there is room for the longest block
+pub record Wide (vs at ents : List ℕ) : Type 0 where
+  pub names : limit ≤ length vs
+  pub places : limit + 1 ≤ length at
+  pub all : entries limit ≤ length ents
+
+-- the arrays hold the block's order and lists
+pub record Loaded (s : List ℕ) (n : ℕ) (vs at ents : List ℕ) : Type 0 where
+  pub orders : take n vs ≡ order s
+  pub rings : held (take (n + 1) at) (take (entries n) ents) ≡ lists s
+  pub cuts : Cuts (take (n + 1) at) (take (entries n) ents)
+
+-- the same in arrays that are just so long
+pub record Trimmed (s vs at ents : List ℕ) : Type 0 where
+  pub headed : Headed s (length vs)
+  pub orders : vs ≡ order s
+  pub rings : held at ents ≡ lists s
+  pub cuts : Cuts at ents
+  pub places : length at ≡ length vs + 1
+
+-- the order's entries are names, each once
+abbrev pub Entered : List ℕ → Type 0
+Entered s = (k : ℕ) → 1 ≤ k → k ≤ posts s → badEntry (posts s) (order s) k ≡ false
+
+-- and the ring rule holds
+pub record Ringed (s : List ℕ) : Type 0 where
+  pub entries-fine : Entered s
+  pub rings-fine : (u : ℕ) → u < posts s → ringRule (lists s) u ≡ true
+
+-- a checked block's header, order, lists and positions
+pub record Checked (s : List ℕ) (n : ℕ) (vs at ents rank : List ℕ) : Type 0 where
+  pub headed : Headed s n
+  pub loaded : Loaded s n vs at ents
+  pub ranked : Ranked (order s) rank
+
+-- what the arrays hold if the answer is an acceptance
+abbrev pub LoadedIf : Answer → List ℕ → ℕ → List ℕ → List ℕ → List ℕ → Type 0
+LoadedIf r s n vs at ents = (m : ℕ) → replyOf r ≡ accepted m → Loaded s n vs at ents
+
+abbrev pub RankedIf : Answer → List ℕ → List ℕ → Type 0
+RankedIf r s rank = (m : ℕ) → replyOf r ≡ accepted m → Ranked (order s) rank
+
+abbrev pub CheckedIf : Answer → List ℕ → List ℕ → List ℕ → List ℕ → List ℕ → Type 0
+CheckedIf r s vs at ents rank = (n : ℕ) → replyOf r ≡ accepted n → Checked s n vs at ents rank

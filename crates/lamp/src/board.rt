@@ -1,0 +1,95 @@
+// The groups of rows over loaded lists: rings, triangles, the outer triangle, and the rule per position.
+ghost use mathlib.Core.Path.{_≡_};
+ghost use Prim.Native.Nat.{_≤_};
+ghost use lib.ListN.{length};
+ghost use Rattle.block.specs.Block.{posts};
+ghost use Rattle.order.specs.Ranked.{Ranked};
+ghost use Rattle.lamp.specs.Lamp.{ringRows, triangleRows, outerRows, positionRows};
+ghost use Rattle.lamp.specs.Given.{replyOf, given};
+ghost use Rattle.lamp.specs.Loaded.{boardRows, rowsFrom, Trimmed, Ringed};
+use crate::Answer;
+use crate::Refusal;
+use order::Fit;
+
+// The ring rule.
+fn rings_of(s: &[u8], vs: &[u16], at: &[u16], ents: &[u16]) -> Answer
+    requires { ⌜ Trimmed (now s) (now vs) (now at) (now ents) ⌝ }
+    ensures { λ r. ⌜ replyOf r ≡ given ringRows (now (s .entry)) posts ⌝ }
+{
+    let n = vs.len();
+    let u = rings::first_bad_ring(ents, at);
+    if u < n {
+        return Answer::Refused(Refusal::Ring(u as u16));
+    }
+    Answer::Accepted(n as u16)
+}
+
+// The triangle rule.
+fn triangles_of(s: &[u8], vs: &[u16], at: &[u16], ents: &[u16]) -> Answer
+    requires { ⌜ Trimmed (now s) (now vs) (now at) (now ents) ⌝ }
+    ensures { λ r. ⌜ replyOf r ≡ given triangleRows (now (s .entry)) posts ⌝ }
+{
+    let n = vs.len();
+    let u = rings::first_bad_triangle(ents, at);
+    if u < n {
+        return Answer::Refused(Refusal::Triangle(u as u16));
+    }
+    Answer::Accepted(n as u16)
+}
+
+// The outer triangle.
+fn outer_of(s: &[u8], vs: &[u16], at: &[u16], ents: &[u16]) -> Answer
+    requires { ⌜ Trimmed (now s) (now vs) (now at) (now ents) ⌝ }
+    ensures { λ r. ⌜ replyOf r ≡ given outerRows (now (s .entry)) posts ⌝ }
+{
+    let n = vs.len();
+    if !rings::is_outer(ents, at, vs[0], vs[1], vs[n - 1]) {
+        return Answer::Refused(Refusal::Outer);
+    }
+    Answer::Accepted(n as u16)
+}
+
+// Rings, triangles and the outer triangle.
+pub fn board(s: &[u8], vs: &[u16], at: &[u16], ents: &[u16]) -> Answer
+    requires { ⌜ Trimmed (now s) (now vs) (now at) (now ents) ⌝ }
+    ensures { λ r. ⌜ replyOf r ≡ given boardRows (now (s .entry)) posts ⌝ }
+{
+    let g = rings_of(s, vs, at, ents);
+    let Answer::Accepted(_) = g else {
+        return g;
+    };
+    let t = triangles_of(s, vs, at, ents);
+    let Answer::Accepted(_) = t else {
+        return t;
+    };
+    outer_of(s, vs, at, ents)
+}
+
+// The rule at position k, which is answered where none applies.
+fn position(s: &[u8], vs: &[u16], at: &[u16], ents: &[u16], rank: &[u16], k: usize) -> Answer
+    requires { ⌜ Trimmed (now s) (now vs) (now at) (now ents) × Ranked (now vs) (now rank) × Ringed (now s) × (1 ≤ k) × (k ≤ length (now vs)) ⌝ }
+    ensures { λ r. ⌜ replyOf r ≡ given (positionRows k) (now (s .entry)) (λ z. k) ⌝ }
+{
+    let f = order::rule_at(ents, at, vs, rank, k);
+    match f {
+        Fit::Good => Answer::Accepted(k as u16),
+        Fit::Few => Answer::Refused(Refusal::Few(k as u16)),
+        Fit::Broken => Answer::Refused(Refusal::Broken(k as u16)),
+    }
+}
+
+// The rule per position, at positions 3 to n in turn.
+pub fn fitting(s: &[u8], vs: &[u16], at: &[u16], ents: &[u16], rank: &[u16]) -> Answer
+    requires { ⌜ Trimmed (now s) (now vs) (now at) (now ents) × Ranked (now vs) (now rank) × Ringed (now s) ⌝ }
+    ensures { λ r. ⌜ replyOf r ≡ given (rowsFrom 3 (length (now (vs .entry)))) (now (s .entry)) posts ⌝ }
+{
+    let n = vs.len();
+    let mut k = 3;
+    while k <= n {
+        if let Answer::Refused(r) = position(s, vs, at, ents, rank, k) {
+            return Answer::Refused(r);
+        }
+        k += 1;
+    }
+    Answer::Accepted(n as u16)
+}
