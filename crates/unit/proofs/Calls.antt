@@ -1,6 +1,6 @@
 -- The replies of sheet and post, by what check answered and the code compared; and the buffer after a sheet call.
 use Prim.Native.Nat.{ℕ, _+_, _*_, _≤_, _<_}
-use mathlib.Core.Path.{_≡_, refl, sym, ap, _∙_, subst⁻¹}
+use mathlib.Core.Path.{_≡_, refl, sym, ap, _∙_, subst, subst⁻¹}
 use mathlib.Core.Bool.{false, _||_}
 use mathlib.Core.List.{List, [], _∷_, _++_}
 use native.Mathlib.Omega.{arith}
@@ -10,12 +10,14 @@ use borrow.Author.Tests.{lt-ltb, le-ltb, le-leb, lt-leb}
 use Rattle.block.specs.Layout.{limit, entries}
 use Rattle.block.specs.Block.{posts, lists}
 use Rattle.rings.specs.Held.{held}
-use Rattle.order.specs.Ranked.{Ranked}
+use Rattle.words.specs.Positions.{post}
+use Rattle.order.specs.Ranked.{RankedBelow, Ranked}
 use Rattle.order.proofs.Sound.{Passes}
+use Rattle.order.proofs.Fitting.{passes-plane, passes-fits}
 use Rattle.placing.specs.Stages.{stage}
 use Rattle.placing.specs.Records.{recordOf, entriesOf}
 use Rattle.placing.specs.declared.Record.{Record}
-use Rattle.engine.specs.Found.{Accepted}
+use Rattle.order.specs.Fitted.{Fitted}
 use Rattle.lamp.specs.Lamp.{Row, checkRows, stageRow, roomRow, nameRow, sheetRows, postRows}
 use Rattle.lamp.specs.Given.{Reply, accepted, refused, given, checkReply}
 use Rattle.unit.specs.Replies.{stageAt, sheetReply, bufferFor, bufferAfter, postReply}
@@ -108,15 +110,24 @@ module _ (s : List ℕ) where
     pub length-is : length (take n vs) ≡ n
     length-is = L .headed .is ∙ sym (R .headed .is)
 
-    pub to-engine : Accepted (take (n + 1) at) (take (entries n) ents) (take n vs) rank
+    P : Passes (held (take (n + 1) at) (take (entries n) ents)) (take n vs)
+    P = subst⁻¹ (λ (G : List (List ℕ)). Passes G (take n vs)) (L .rings) (subst⁻¹ (Passes (lists s)) (L .orders) (none-passes s (accepted-none s n e)))
+
+    pub many-is : length (held (take (n + 1) at) (take (entries n) ents)) ≡ n
+    many-is = sym (P .board .all) ∙ length-is
+
+    pub to-engine : Fitted (take (n + 1) at) (take (entries n) ents) (take n vs) rank
     to-engine =
+        let G = held (take (n + 1) at) (take (entries n) ents) in
+        let all : RankedBelow (length (take n vs)) (take n vs) rank = subst⁻¹ (λ (l : List ℕ). Ranked l rank) (L .orders) (R .ranked) in
         record {
-          passes = subst⁻¹ (λ (G : List (List ℕ)). Passes G (take n vs)) (L .rings) (subst⁻¹ (Passes (lists s)) (L .orders) (none-passes s (accepted-none s n e)));
+          vn = post (take n vs) (length G);
+          plane = passes-plane G (take n vs) P;
+          fits = passes-fits G (take n vs) P;
           cuts = L .cuts;
-          all = L .places;
           three = L .headed .least;
-          most = L .headed .most;
-          ranked = subst⁻¹ (λ (l : List ℕ). Ranked l rank) (L .orders) (R .ranked);
+          most = omega (arith, many-is, length-is, L .headed .most);
+          ranked = subst (λ (m : ℕ). RankedBelow m (take n vs) rank) (P .board .all) all;
         }
 
     pub stage-is : (k : ℕ) → stage (held (take (n + 1) at) (take (entries n) ents)) (take k (take n vs)) ≡ stageAt k s

@@ -11,14 +11,14 @@ use Rattle.lamp.proofs.Accepts.{lists-count, none-passes, accepted-none, accept
 use Rattle.unit.specs.Replies.{stageAt, sheetReply}
 use Rattle.unit.specs.Demands.{thePaper, Accepted, places, onSheet}
 use Rattle.unit.specs.Mirror.{Inner, NoMirror}
-use Rattle.unit.proofs.Third.{Passing}
+use Rattle.unit.proofs.Third.{Passing, vn, plane, fits, many}
 use Rattle.unit.proofs.Written.{sheet-passes, sheet-least, sheet-most, sheet-x, sheet-y}
 
 module _ (s : List ℕ) (S : Passing s) (k : ℕ) (h : 3 ≤ k) (i : k ≤ posts s) where
   turns : (u a b : ℕ) → Inner s k u a b → PositiveArea (places s k) u a b
   unfolding stageAt
   turns u a b t =
-      no-mirror-at (lists s) (order s) (S .passes) k h (omega arith) u a b (t .turn) (t .placed-u) (t .placed-a) (t .placed-b)
+      no-mirror-at (lists s) (vn s S) (order s) (plane s S) (fits s S) k h (omega (arith, many s S)) u a b (t .turn) (t .placed-u) (t .placed-a) (t .placed-b)
       (λ o. t .not-outer (rw (S .all) o))
 
 -- the same numbers, read off the sheet

@@ -1,12 +1,15 @@
 -- The third demand, of blocks whose order passes: no stage can short.
 use Prim.Native.Nat.{ℕ, _+_, _*_, _-_, _≤_, _<_}
-use mathlib.Core.Path.{_≡_}
+use mathlib.Core.Path.{_≡_, sym, _∙_}
 use mathlib.Core.List.{List}
 use native.Mathlib.Omega.{arith}
 use lib.ListN.{length, take}
 use Rattle.block.specs.Block.{posts, order, lists}
-use Rattle.rings.specs.Plane.{Wire}
+use Rattle.words.specs.Positions.{post}
+use Rattle.rings.specs.Plane.{Plane, Wire}
+use Rattle.order.specs.Fitting.{FitsSoFar}
 use Rattle.order.proofs.Sound.{Passes}
+use Rattle.order.proofs.Fitting.{passes-plane, passes-fits}
 use Rattle.drawing.specs.Meeting.{OnGrid, NoneMeet}
 use Rattle.shift.proofs.Every.{grid-at, no-short-at, moves-at}
 use Rattle.lamp.specs.Given.{accepted}
@@ -18,20 +21,34 @@ pub record Passing (s : List ℕ) : Type 0 where
   pub passes : Passes (lists s) (order s)
   pub all : posts s ≡ length (lists s)
 
-module _ (s : List ℕ) (S : Passing s) (k : ℕ) (h : 3 ≤ k) where
-  pub on-grid : k ≤ posts s → OnGrid (places s k) (Placed s k) (2 * k - 4) (k - 2)
-  unfolding stageAt
-  on-grid i = grid-at (lists s) (order s) (S .passes) k h (omega arith)
+-- its rings are plane, and its order fits to the end
+module _ (s : List ℕ) (S : Passing s) where
+  abbrev pub vn : ℕ
+  vn = post (order s) (length (lists s))
 
-  pub no-short : k ≤ posts s → NoneMeet (places s k) (Wire (lists s) (take k (order s)))
-  unfolding stageAt
-  no-short i = no-short-at (lists s) (order s) (S .passes) k h (omega arith)
+  pub plane : Plane (lists s) (post (order s) 1) (post (order s) 2) vn
+  plane = passes-plane (lists s) (order s) (S .passes)
 
-  pub moves : k < posts s → (u : ℕ) → Placed s k u → Moves (places s k) (places s (k + 1)) u
-  unfolding stageAt
-  moves i u a =
-      let m = moves-at (lists s) (order s) (S .passes) k h (omega arith) u a in
-      record { height = m .0; never-left = m .1; at-most-two = m .2 }
+  pub fits : FitsSoFar (lists s) vn (order s)
+  fits = passes-fits (lists s) (order s) (S .passes)
+
+  pub many : length (order s) ≡ posts s
+  many = S .passes .board .all ∙ sym (S .all)
+
+  module _ (k : ℕ) (h : 3 ≤ k) where
+    pub on-grid : k ≤ posts s → OnGrid (places s k) (Placed s k) (2 * k - 4) (k - 2)
+    unfolding stageAt
+    on-grid i = grid-at (lists s) vn (order s) plane fits k h (omega (arith, many))
+
+    pub no-short : k ≤ posts s → NoneMeet (places s k) (Wire (lists s) (take k (order s)))
+    unfolding stageAt
+    no-short i = no-short-at (lists s) vn (order s) plane fits k h (omega (arith, many))
+
+    pub moves : k < posts s → (u : ℕ) → Placed s k u → Moves (places s k) (places s (k + 1)) u
+    unfolding stageAt
+    moves i u a =
+        let m = moves-at (lists s) vn (order s) plane fits k h (omega (arith, many)) u a in
+        record { height = m .0; never-left = m .1; at-most-two = m .2 }
 
 -- the demand, for a unit that accepts only such blocks, with their n
 pub demand-3 : (U : Services)

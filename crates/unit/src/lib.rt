@@ -7,7 +7,7 @@ ghost use Rattle.block.specs.Layout.{limit, entries};
 ghost use Rattle.rings.specs.Held.{held};
 ghost use Rattle.placing.specs.Stages.{stage};
 ghost use Rattle.placing.specs.Records.{recordOf, entriesOf};
-ghost use Rattle.engine.specs.Found.{Accepted};
+ghost use Rattle.order.specs.Fitted.{Fitted};
 ghost use Rattle.lamp.specs.Given.{accepted, replyOf, checkReply};
 ghost use Rattle.lamp.specs.Loaded.{Wide, Checked};
 ghost use Rattle.unit.specs.Replies.{sheetReply, bufferAfter, postReply, postedOf};
@@ -48,7 +48,7 @@ pub fn check(s: &[u8]) -> Answer
 
 // The sheet of stage k of an accepted block, into the buffer.
 fn draw_sheet(at: &[u16], ents: &[u16], vs: &[u16], rank: &[u16], k: usize, buffer: &mut [u16])
-    requires { ⌜ Accepted (now at) (now ents) (now vs) (now rank) × (3 ≤ k) × (k ≤ length (now vs)) × (2 * k ≤ length (now buffer)) ⌝ }
+    requires { ⌜ Fitted (now at) (now ents) (now vs) (now rank) × (3 ≤ k) × (k ≤ length (now vs)) × (2 * k ≤ length (now buffer)) ⌝ }
     ensures { λ r. ⌜ now (buffer .exit) ≡ entriesOf (stage (held (now (at .entry)) (now (ents .entry))) (take k (now (vs .entry)))) ++ drop (2 * k) (now (buffer .entry)) ⌝ }
 {
     let mut ys = no_names();
@@ -75,7 +75,7 @@ fn draw_sheet(at: &[u16], ents: &[u16], vs: &[u16], rank: &[u16], k: usize, buff
 
 // The record of post u at stage k of an accepted block.
 fn draw_post(at: &[u16], ents: &[u16], vs: &[u16], rank: &[u16], k: usize, u: u16) -> Record
-    requires { ⌜ Accepted (now at) (now ents) (now vs) (now rank) × (3 ≤ k) × (k ≤ length (now vs)) × (u < length (now vs)) ⌝ }
+    requires { ⌜ Fitted (now at) (now ents) (now vs) (now rank) × (3 ≤ k) × (k ≤ length (now vs)) × (u < length (held (now at) (now ents))) ⌝ }
     ensures { λ r. ⌜ r ≡ recordOf (stage (held (now (at .entry)) (now (ents .entry))) (take k (now (vs .entry)))) u ⌝ }
 {
     let mut ys = no_names();

@@ -7,7 +7,7 @@ use mathlib.Core.Path.{_≡_, sym, ap, _∙_, subst, subst⁻¹}
 use lib.ListN.{take}
 use lib.Seq.{length-take-le}
 use Rattle.rings.specs.Held.{held}
-use Rattle.engine.specs.Found.{Accepted}
+use Rattle.order.specs.Fitted.{Fitted}
 use Rattle.placing.specs.Stages.{Stage, stage}
 use Rattle.placing.specs.Records.{recordOf}
 use Rattle.lamp.specs.Given.{accepted}
@@ -58,7 +58,7 @@ cast-draw-post c = omega (arith, c .before .before .before .before .before .befo
 draw-post-requires : tie.Need-draw-post-requires
 draw-post-requires c κs =
     let entry = c .before .before .before .before .before .before .before .before .before .before .before .before in
-    (subst⁻¹ (λ (m : ℕ). Accepted (take ((entry .args .n) + 1) (entry .args .at .now)) (take m (entry .args .ents .now)) (take (entry .args .n) (entry .args .vs .now)) (entry .args .rank .now)) (c .before .before .before .entries .ensures) (to-engine (entry .args .s .now) (entry .args .n) (entry .pre .0) (entry .args .vs .now) (entry .args .at .now) (entry .args .ents .now) (entry .args .rank .now) (entry .pre .1) (omega (arith, entry .pre .2 .places))), c .before .before .before .before .before .before .if1 .left, omega (arith, length-is (entry .args .s .now) (entry .args .n) (entry .pre .0) (entry .args .vs .now) (entry .args .at .now) (entry .args .ents .now) (entry .args .rank .now) (entry .pre .1) (omega (arith, entry .pre .2 .places))), omega (arith, length-is (entry .args .s .now) (entry .args .n) (entry .pre .0) (entry .args .vs .now) (entry .args .at .now) (entry .args .ents .now) (entry .args .rank .now) (entry .pre .1) (omega (arith, entry .pre .2 .places))))
+    (subst⁻¹ (λ (m : ℕ). Fitted (take ((entry .args .n) + 1) (entry .args .at .now)) (take m (entry .args .ents .now)) (take (entry .args .n) (entry .args .vs .now)) (entry .args .rank .now)) (c .before .before .before .entries .ensures) (to-engine (entry .args .s .now) (entry .args .n) (entry .pre .0) (entry .args .vs .now) (entry .args .at .now) (entry .args .ents .now) (entry .args .rank .now) (entry .pre .1) (omega (arith, entry .pre .2 .places))), c .before .before .before .before .before .before .if1 .left, omega (arith, length-is (entry .args .s .now) (entry .args .n) (entry .pre .0) (entry .args .vs .now) (entry .args .at .now) (entry .args .ents .now) (entry .args .rank .now) (entry .pre .1) (omega (arith, entry .pre .2 .places))), omega (arith, length-is (entry .args .s .now) (entry .args .n) (entry .pre .0) (entry .args .vs .now) (entry .args .at .now) (entry .args .ents .now) (entry .args .rank .now) (entry .pre .1) (omega (arith, entry .pre .2 .places))))
 
 returns-4 : tie.Need-returns-4
 returns-4 c =

@@ -8,7 +8,7 @@ use mathlib.Core.List.{_++_}
 use lib.ListN.{take, drop}
 use lib.Seq.{length-take-le}
 use Rattle.rings.specs.Held.{held}
-use Rattle.engine.specs.Found.{Accepted}
+use Rattle.order.specs.Fitted.{Fitted}
 use Rattle.placing.specs.Stages.{Stage, stage}
 use Rattle.placing.specs.Records.{entriesOf}
 use Rattle.unit.specs.Replies.{stageAt}
@@ -62,7 +62,7 @@ draw-sheet-requires : tie.Need-draw-sheet-requires
 draw-sheet-requires c κs =
     let entry = c .before .before .before .before .before .before .before .before .before .before .before .before .before .before in
     let if1 = c .before .before .before .before .before .before .before .if1 in
-    (subst⁻¹ (λ (m : ℕ). Accepted (take ((entry .args .n) + 1) (entry .args .at .now)) (take m (entry .args .ents .now)) (take (entry .args .n) (entry .args .vs .now)) (entry .args .rank .now)) (c .before .before .before .before .entries .ensures) (to-engine (entry .args .s .now) (entry .args .n) (entry .pre .0) (entry .args .vs .now) (entry .args .at .now) (entry .args .ents .now) (entry .args .rank .now) (entry .pre .1) (omega (arith, entry .pre .2 .places))), omega (arith, if1 .left), omega (arith, if1 .left, c .before .before .before .before .before .before .if2 .left, length-is (entry .args .s .now) (entry .args .n) (entry .pre .0) (entry .args .vs .now) (entry .args .at .now) (entry .args .ents .now) (entry .args .rank .now) (entry .pre .1) (omega (arith, entry .pre .2 .places))), omega (arith, if1 .left, c .before .before .before .before .before .if3 .left))
+    (subst⁻¹ (λ (m : ℕ). Fitted (take ((entry .args .n) + 1) (entry .args .at .now)) (take m (entry .args .ents .now)) (take (entry .args .n) (entry .args .vs .now)) (entry .args .rank .now)) (c .before .before .before .before .entries .ensures) (to-engine (entry .args .s .now) (entry .args .n) (entry .pre .0) (entry .args .vs .now) (entry .args .at .now) (entry .args .ents .now) (entry .args .rank .now) (entry .pre .1) (omega (arith, entry .pre .2 .places))), omega (arith, if1 .left), omega (arith, if1 .left, c .before .before .before .before .before .before .if2 .left, length-is (entry .args .s .now) (entry .args .n) (entry .pre .0) (entry .args .vs .now) (entry .args .at .now) (entry .args .ents .now) (entry .args .rank .now) (entry .pre .1) (omega (arith, entry .pre .2 .places))), omega (arith, if1 .left, c .before .before .before .before .before .if3 .left))
 
 mul-t15 : tie.Need-mul-t15
 mul-t15 c = search needs
