@@ -46,7 +46,8 @@ pub extern "C" fn pgb_check(block: &[u8]) -> u32
 
 #[no_mangle]
 pub extern "C" fn pgb_sheet(block: &[u8], stage: usize, buffer: &mut [u16]) -> u32
-    ensures { λ r. ⌜ (r ≡ codeOf (sheetReply (now (block .entry)) stage (now (buffer .entry)))) × (now (buffer .exit) ≡ bufferAfter (now (block .entry)) stage (now (buffer .entry))) ⌝ }
+    ensures { λ r. ⌜ (r ≡ codeOf (sheetReply (now (block .entry)) stage (now (buffer .entry))))
+        × (now (buffer .exit) ≡ bufferAfter (now (block .entry)) stage (now (buffer .entry))) ⌝ }
 {
     code(unit::sheet(block, stage, buffer))
 }

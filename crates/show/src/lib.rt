@@ -1,7 +1,10 @@
 // Sheets, replies and records as text on standard output. What is written no contract can say; it is compared with what it must be.
 ghost use mathlib.Core.Path.{_≡_};
+ghost use Prim.Native.Nat.{_*_};
 ghost use lib.ListN.{length};
+ghost use Rattle.block.specs.Layout.{limit};
 ghost use Rattle.unit.specs.Replies.{bufferAfter};
+use block::Block;
 use lamp::Answer;
 use lamp::Refusal;
 use libc::STDOUT_FILENO;
@@ -39,10 +42,10 @@ pub fn refused(r: Refusal) {
 
 // Position, name, x, y of the post in position i + 1.
 fn line(s: &[u8], i: usize, entries: &[u16]) {
-    if 1000 <= i {
+    if Block::LIMIT <= i {
         return;
     }
-    let at = 7 + 2 * i;
+    let at = Block::ORDER_AT + 2 * i;
     if s.len() <= at + 1 {
         return;
     }
@@ -64,10 +67,13 @@ fn lines(s: &[u8], k: usize, entries: &[u16]) {
     }
 }
 
-fn blank() -> [u16; 2000]
-    ensures { λ r. ⌜ 2000 ≡ length r ⌝ }
+// The entries of the longest sheet.
+const SHEET: usize = 2 * Block::LIMIT;
+
+fn blank() -> [u16; SHEET]
+    ensures { λ r. ⌜ 2 * limit ≡ length r ⌝ }
 {
-    [0u16; 2000]
+    [0u16; SHEET]
 }
 
 // Stage k of a block of n posts: the word, n, the stage; then a line for each position.

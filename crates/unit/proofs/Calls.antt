@@ -1,135 +1,189 @@
--- The replies of sheet and post, by what check answered and the code compared; and the buffer after a sheet call.
+-- What sheet and post reply, by what check answered and what the rows after it gave; and the buffer after a sheet call.
 use Prim.Native.Nat.{ℕ, _+_, _*_, _≤_, _<_}
 use mathlib.Core.Path.{_≡_, refl, sym, ap, _∙_, subst, subst⁻¹}
-use mathlib.Core.Bool.{false, _||_}
+use mathlib.Core.Bool.{false}
 use mathlib.Core.List.{List, [], _∷_, _++_}
 use native.Mathlib.Omega.{arith}
 use lib.Dec.{ltb}
 use lib.ListN.{length, take, drop}
-use borrow.Author.Tests.{lt-ltb, le-ltb, le-leb, lt-leb}
+use borrow.Author.Tests.{lt-ltb, le-ltb, le-leb, lt-leb, ltb-false, leb-false}
+use Rattle.words.proofs.Tests.{neither}
 use Rattle.block.specs.Layout.{limit, entries}
 use Rattle.block.specs.Block.{posts, lists}
 use Rattle.rings.specs.Held.{held}
 use Rattle.words.specs.Positions.{post}
 use Rattle.order.specs.Ranked.{RankedBelow, Ranked}
+use Rattle.order.specs.Fitted.{Fitted}
 use Rattle.order.proofs.Sound.{Passes}
 use Rattle.order.proofs.Fitting.{passes-plane, passes-fits}
-use Rattle.placing.specs.Stages.{stage}
+use Rattle.placing.specs.Stages.{Stage, stage}
 use Rattle.placing.specs.Records.{recordOf, entriesOf}
 use Rattle.placing.specs.declared.Record.{Record}
-use Rattle.order.specs.Fitted.{Fitted}
+use Rattle.lamp.specs.Refusals.{numberOf, placeOf}
 use Rattle.lamp.specs.Lamp.{Row, checkRows, stageRow, roomRow, nameRow, sheetRows, postRows}
-use Rattle.lamp.specs.Given.{Reply, accepted, refused, given, checkReply}
-use Rattle.unit.specs.Replies.{stageAt, sheetReply, bufferFor, bufferAfter, postReply}
+use Rattle.lamp.specs.Given.{Reply, accepted, replyOf, given, checkReply, NoneApplies}
 use Rattle.lamp.specs.Loaded.{Trimmed, Checked}
-use Rattle.lamp.proofs.Given.{given-end, given-skip, given-stop, given-past, given-refused, refused-any}
+use Rattle.lamp.specs.declared.Refusal.{Refusal}
+use Rattle.lamp.specs.declared.Refusal.the-variants.{Room, Name}
+use Rattle.lamp.specs.declared.Answer.{Answer}
+use Rattle.lamp.specs.declared.Answer.the-variants.{Refused}
+use Rattle.lamp.proofs.Given.{given-first, given-past, given-none, refused-any, none-both}
+use Rattle.lamp.proofs.Steps.{refuses}
 use Rattle.lamp.proofs.Loads.{trimmed}
 use Rattle.lamp.proofs.Accepts.{none-passes, accepted-none}
+use Rattle.unit.specs.declared.Ask.{Ask}
+use Rattle.unit.specs.declared.Served.{Served}
+use Rattle.unit.specs.Replies.{stageAt, sheetReply, bufferFor, bufferAfter, postReply}
+use Rattle.unit.specs.Asked.{ownRow, furtherRows, Fits, Tells, Serves}
 
-module _ (s : List ℕ) where
-  check-refused : {A : Type 0} (answer : List ℕ → A) (rest : List Row) (number place : ℕ) → checkReply s ≡ refused number place → given (checkRows s ++ rest) s answer ≡ refused number place
-  unfolding checkReply
-  check-refused answer rest number place e = given-refused s answer (checkRows s) rest number place (refused-any s posts answer (checkRows s) number place e)
+-- ---- the rows after check's, by what the code compared
 
-  -- ---- sheet
+module _ (s : List ℕ) (k : ℕ) where
+  module _ (rest : List Row) where
+    pub stage-low : k < 3 → replyOf (Refused Refusal.Stage) ≡ given (stageRow k ∷ rest) s posts
+    stage-low h = sym (given-first s posts [] (stageRow k) rest tt (rw (lt-ltb k 3 h) refl))
 
-  module _ (k : ℕ) (b : List ℕ) where
-    pub sheet-refused : (number place : ℕ) → checkReply s ≡ refused number place → sheetReply s k b ≡ refused number place
-    unfolding sheetReply sheetRows
-    sheet-refused = check-refused (λ z. 2 * k) (stageRow k ∷ roomRow k (length b) ∷ [])
+    pub stage-high : 3 ≤ k → posts s < k → replyOf (Refused Refusal.Stage) ≡ given (stageRow k ∷ rest) s posts
+    stage-high least h = sym (given-first s posts [] (stageRow k) rest tt (rw (le-ltb k 3 least, lt-ltb (posts s) k h) refl))
 
-    module _ (n : ℕ) (e : checkReply s ≡ accepted n) (is : n ≡ posts s) where
-      past : sheetReply s k b ≡ given (stageRow k ∷ roomRow k (length b) ∷ []) s (λ z. 2 * k)
-      unfolding sheetReply sheetRows
-      past = given-past s (λ z. 2 * k) (checkRows s) (stageRow k ∷ roomRow k (length b) ∷ []) (accepted-none s n e)
+    pub stage-past : 3 ≤ k → k ≤ posts s → given rest s posts ≡ given (stageRow k ∷ rest) s posts
+    stage-past least most =
+        sym (given-past s posts (stageRow k ∷ []) rest (rw (le-ltb k 3 least, le-ltb (posts s) k most) refl, tt))
 
-      pub sheet-low : k < 3 → sheetReply s k b ≡ refused 15 0
-      sheet-low h = past ∙ given-stop s (λ z. 2 * k) (stageRow k) _ (rw (lt-ltb k 3 h) refl)
+  pub no-room : (room : ℕ) → room < 2 * k → replyOf (Refused Room) ≡ given (roomRow k room ∷ []) s posts
+  no-room room h = sym (given-first s posts [] (roomRow k room) [] tt (lt-ltb room (2 * k) h))
 
-      module _ (least : 3 ≤ k) where
-        pub sheet-high : n < k → sheetReply s k b ≡ refused 15 0
-        sheet-high h = past ∙ given-stop s (λ z. 2 * k) (stageRow k) _ (rw (le-ltb k 3 least, lt-ltb (posts s) k (omega arith)) refl)
+  pub room-fine : (room : ℕ) → 2 * k ≤ room → NoneApplies (roomRow k room ∷ []) s
+  room-fine room h = (le-ltb room (2 * k) h, tt)
 
-        module _ (most : k ≤ n) where
-          inside : ltb k 3 || ltb (posts s) k ≡ false
-          inside = rw (le-ltb k 3 least, le-ltb (posts s) k (omega arith)) refl
+pub no-name : (s : List ℕ) (u : ℕ) → posts s ≤ u → replyOf (Refused Name) ≡ given (nameRow u ∷ []) s posts
+no-name s u h = sym (given-first s posts [] (nameRow u) [] tt (le-leb (posts s) u h))
 
-          pub sheet-room : length b < 2 * k → sheetReply s k b ≡ refused 16 0
-          sheet-room h = past ∙ given-skip s (λ z. 2 * k) (stageRow k) _ inside ∙ given-stop s (λ z. 2 * k) (roomRow k (length b)) _ (lt-ltb (length b) (2 * k) h)
+pub name-fine : (s : List ℕ) (u : ℕ) → u < posts s → NoneApplies (nameRow u ∷ []) s
+name-fine s u h = (lt-leb (posts s) u h, tt)
 
-          pub sheet-fine : 2 * k ≤ length b → sheetReply s k b ≡ accepted (2 * k)
-          sheet-fine h =
-              past ∙ given-skip s (λ z. 2 * k) (stageRow k) _ inside ∙ given-skip s (λ z. 2 * k) (roomRow k (length b)) _ (le-ltb (length b) (2 * k) h) ∙ given-end s (λ z. 2 * k)
+-- where none applies, the stage and what is asked of it fit
+pub stage-fits : (ask : Ask) (s : List ℕ) (k room : ℕ) → NoneApplies (furtherRows ask k room) s → (3 ≤ k) × (k ≤ posts s)
+stage-fits ask s k room h =
+    let in-range = neither (ltb k 3) (ltb (posts s) k) (h .0) in
+    (ltb-false k 3 (in-range .0), ltb-false (posts s) k (in-range .1))
 
-    pub buffer-kept : (number place : ℕ) → sheetReply s k b ≡ refused number place → b ≡ bufferAfter s k b
-    unfolding bufferAfter bufferFor
-    buffer-kept number place e = sym (ap (λ (r : Reply ℕ). bufferFor r s k b) e)
+pub fits : (ask : Ask) (s : List ℕ) (k room n : ℕ) → n ≡ posts s → NoneApplies (furtherRows ask k room) s → Fits ask k n room
+fits Ask.Sheet s k room n is h = ltb-false room (2 * k) (search)
+fits (Ask.Post u) s k room n is h = let low = leb-false (posts s) u (search) in omega (arith, low, is)
 
-    pub buffer-written : sheetReply s k b ≡ accepted (2 * k) → entriesOf (stageAt k s) ++ drop (2 * k) b ≡ bufferAfter s k b
-    unfolding bufferAfter bufferFor
-    buffer-written e = sym (ap (λ (r : Reply ℕ). bufferFor r s k b) e)
+-- ---- the replies
 
-  -- ---- post
+module _ (s : List ℕ) (k : ℕ) (b : List ℕ) where
+  -- sheet's and post's tables are check's with the rows that follow
+  sheet-refused : (number place : ℕ) → given (checkRows s ++ furtherRows Ask.Sheet k (length b)) s posts ≡ Reply.refused number place
+      → (Reply.refused number place ≡ sheetReply s k b) × (b ≡ bufferAfter s k b)
+  unfolding sheetReply sheetRows bufferAfter bufferFor
+  sheet-refused number place e =
+      let q = refused-any s posts (λ z. 2 * k) (sheetRows s k (length b)) number place e in
+      (sym q, sym (ap (λ (r : Reply ℕ). bufferFor r s k b) q))
 
-  module _ (k u : ℕ) where
-    abbrev answer : List ℕ → Record
-    answer z = recordOf (stageAt k z) u
+  post-refused : (u number place : ℕ) → given (checkRows s ++ furtherRows (Ask.Post u) k (length b)) s posts ≡ Reply.refused number place
+      → Reply.refused number place ≡ postReply s k u
+  unfolding postReply postRows
+  post-refused u number place e = sym (refused-any s posts (λ z. recordOf (stageAt k z) u) (postRows s k u) number place e)
 
-    pub post-refused : (number place : ℕ) → checkReply s ≡ refused number place → postReply s k u ≡ refused number place
-    unfolding postReply postRows
-    post-refused = check-refused answer (stageRow k ∷ nameRow u ∷ [])
+  refused-serves : (ask : Ask) (f : Refusal) (w : Record) → replyOf (Refused f) ≡ given (checkRows s ++ furtherRows ask k (length b)) s posts
+      → Serves ask k s b (record { answer = Refused f; found = w }) b
+  refused-serves Ask.Sheet f w e = sheet-refused (numberOf f) (placeOf f) (sym e)
+  refused-serves (Ask.Post u) f w e = post-refused u (numberOf f) (placeOf f) (sym e)
 
-    module _ (n : ℕ) (e : checkReply s ≡ accepted n) (is : n ≡ posts s) where
-      on : postReply s k u ≡ given (stageRow k ∷ nameRow u ∷ []) s answer
-      unfolding postReply postRows
-      on = given-past s answer (checkRows s) (stageRow k ∷ nameRow u ∷ []) (accepted-none s n e)
+  module _ (ask : Ask) (a : Answer) (f : Refusal) (told : a ≡ Refused f) (w : Record) where
+    -- check refuses
+    pub check-refuses : replyOf a ≡ checkReply s → Serves ask k s b (record { answer = a; found = w }) b
+    unfolding checkReply
+    check-refuses e =
+        let q = sym (ap replyOf told) ∙ refuses s (checkRows s) a e (furtherRows ask k (length b)) f told in
+        subst⁻¹ (λ (z : Answer). Serves ask k s b (record { answer = z; found = w }) b) told (refused-serves ask f w q)
 
-      pub post-low : k < 3 → postReply s k u ≡ refused 15 0
-      post-low h = on ∙ given-stop s answer (stageRow k) _ (rw (lt-ltb k 3 h) refl)
+    -- check accepts, and a row after it applies
+    pub row-refuses : (n : ℕ) → checkReply s ≡ accepted n → replyOf a ≡ given (furtherRows ask k (length b)) s posts
+        → Serves ask k s b (record { answer = a; found = w }) b
+    row-refuses n c e =
+        let past = given-past s posts (checkRows s) (furtherRows ask k (length b)) (accepted-none s n c) in
+        let q = sym (ap replyOf told) ∙ e ∙ sym past in
+        subst⁻¹ (λ (z : Answer). Serves ask k s b (record { answer = z; found = w }) b) told (refused-serves ask f w q)
 
-      module _ (least : 3 ≤ k) where
-        pub post-high : n < k → postReply s k u ≡ refused 15 0
-        post-high h = on ∙ given-stop s answer (stageRow k) _ (rw (le-ltb k 3 least, lt-ltb (posts s) k (omega arith)) refl)
+  -- none applies, and the stage is told
+  sheet-fine : NoneApplies (checkRows s ++ furtherRows Ask.Sheet k (length b)) s
+      → (accepted (2 * k) ≡ sheetReply s k b) × (entriesOf (stageAt k s) ++ drop (2 * k) b ≡ bufferAfter s k b)
+  unfolding sheetReply sheetRows bufferAfter bufferFor
+  sheet-fine none =
+      let q = given-none s (λ z. 2 * k) (sheetRows s k (length b)) none in
+      (sym q, sym (ap (λ (r : Reply ℕ). bufferFor r s k b) q))
 
-        module _ (most : k ≤ n) where
-          within : ltb k 3 || ltb (posts s) k ≡ false
-          within = rw (le-ltb k 3 least, le-ltb (posts s) k (omega arith)) refl
+  post-fine : (u : ℕ) → NoneApplies (checkRows s ++ furtherRows (Ask.Post u) k (length b)) s → accepted (recordOf (stageAt k s) u) ≡ postReply s k u
+  unfolding postReply postRows
+  post-fine u none = sym (given-none s (λ z. recordOf (stageAt k z) u) (postRows s k u) none)
 
-          pub post-unnamed : n ≤ u → postReply s k u ≡ refused 17 0
-          post-unnamed h = on ∙ given-skip s answer (stageRow k) _ within ∙ given-stop s answer (nameRow u) _ (le-leb (posts s) u (omega arith))
+  tells-serves : (ask : Ask) (w : Record) (after : List ℕ) → NoneApplies (checkRows s ++ furtherRows ask k (length b)) s
+      → Tells ask k (stageAt k s) b w after → Serves ask k s b (record { answer = Answer.Accepted (2 * k); found = w }) after
+  tells-serves Ask.Sheet w after none t = let e = sheet-fine none in (e .0, t ∙ e .1)
+  tells-serves (Ask.Post u) w after none t = ap accepted t ∙ post-fine u none
 
-          pub post-fine : u < n → postReply s k u ≡ accepted (recordOf (stageAt k s) u)
-          post-fine h = on ∙ given-skip s answer (stageRow k) _ within ∙ given-skip s answer (nameRow u) _ (lt-leb (posts s) u (omega arith)) ∙ given-end s answer
+  pub serves : (ask : Ask) (n : ℕ) (t : Stage) (w : Record) (after : List ℕ) → checkReply s ≡ accepted n
+      → NoneApplies (furtherRows ask k (length b)) s → t ≡ stageAt k s → Tells ask k t b w after
+      → Serves ask k s b (record { answer = Answer.Accepted (2 * k); found = w }) after
+  serves ask n t w after c none is told =
+      let all = none-both (checkRows s) (furtherRows ask k (length b)) s (accepted-none s n c) none in
+      tells-serves ask w after all (subst (λ (z : Stage). Tells ask k z b w after) is told)
 
-  -- ---- what the engine asks, and what it gives
+-- ---- by what is asked
 
-  module _ (n : ℕ) (e : checkReply s ≡ accepted n) (vs at ents rank : List ℕ) (R : Checked s n vs at ents rank) (room : limit < length at) where
-    L : Trimmed s (take n vs) (take (n + 1) at) (take (entries n) ents)
-    L = trimmed s n vs at ents (R .headed) room (R .loaded)
+module _ (ask : Ask) (k : ℕ) where
+  module _ (e : ask ≡ Ask.Sheet) where
+    pub fits-sheet : (n room : ℕ) → Fits ask k n room → 2 * k ≤ room
+    fits-sheet n room h = subst (λ (a : Ask). Fits a k n room) e h
 
-    pub length-is : length (take n vs) ≡ n
-    length-is = L .headed .is ∙ sym (R .headed .is)
+    pub tells-sheet : (t : Stage) (b : List ℕ) (r : Record) (after : List ℕ) → after ≡ entriesOf t ++ drop (2 * k) b → Tells ask k t b r after
+    tells-sheet t b r after h = subst⁻¹ (λ (a : Ask). Tells a k t b r after) e h
 
-    P : Passes (held (take (n + 1) at) (take (entries n) ents)) (take n vs)
-    P = subst⁻¹ (λ (G : List (List ℕ)). Passes G (take n vs)) (L .rings) (subst⁻¹ (Passes (lists s)) (L .orders) (none-passes s (accepted-none s n e)))
+  module _ (u : ℕ) (e : ask ≡ Ask.Post u) where
+    pub fits-post : (n room : ℕ) → Fits ask k n room → u < n
+    fits-post n room h = subst (λ (a : Ask). Fits a k n room) e h
 
-    pub many-is : length (held (take (n + 1) at) (take (entries n) ents)) ≡ n
-    many-is = sym (P .board .all) ∙ length-is
+    pub tells-post : (t : Stage) (b : List ℕ) (r : Record) (after : List ℕ) → r ≡ recordOf t u → Tells ask k t b r after
+    tells-post t b r after h = subst⁻¹ (λ (a : Ask). Tells a k t b r after) e h
 
-    pub to-engine : Fitted (take (n + 1) at) (take (entries n) ents) (take n vs) rank
-    to-engine =
-        let G = held (take (n + 1) at) (take (entries n) ents) in
-        let all : RankedBelow (length (take n vs)) (take n vs) rank = subst⁻¹ (λ (l : List ℕ). Ranked l rank) (L .orders) (R .ranked) in
-        record {
-          vn = post (take n vs) (length G);
-          plane = passes-plane G (take n vs) P;
-          fits = passes-fits G (take n vs) P;
-          cuts = L .cuts;
-          three = L .headed .least;
-          most = omega (arith, many-is, length-is, L .headed .most);
-          ranked = subst (λ (m : ℕ). RankedBelow m (take n vs) rank) (P .board .all) all;
-        }
+-- ---- what the engine asks, and what it gives
 
-    pub stage-is : (k : ℕ) → stage (held (take (n + 1) at) (take (entries n) ents)) (take k (take n vs)) ≡ stageAt k s
-    unfolding stageAt
-    stage-is k = rw (L .rings, L .orders) refl
+module _ (s : List ℕ) (n : ℕ) (e : checkReply s ≡ accepted n) (vs at ents rank : List ℕ) (R : Checked s n vs at ents rank) (room : limit < length at)
+    (m : ℕ) (em : m ≡ entries n) where
+  L : Trimmed s (take n vs) (take (n + 1) at) (take m ents)
+  L = rw em (trimmed s n vs at ents (R .headed) room (R .loaded))
+
+  pub length-is : length (take n vs) ≡ n
+  length-is = L .headed .is ∙ sym (R .headed .is)
+
+  P : Passes (held (take (n + 1) at) (take m ents)) (take n vs)
+  P = subst⁻¹ (λ (G : List (List ℕ)). Passes G (take n vs)) (L .rings) (subst⁻¹ (Passes (lists s)) (L .orders) (none-passes s (accepted-none s n e)))
+
+  pub many-is : length (held (take (n + 1) at) (take m ents)) ≡ n
+  many-is = sym (P .board .all) ∙ length-is
+
+  -- an accepted block's order fits to its end
+  pub to-engine : Fitted (take (n + 1) at) (take m ents) (take n vs) rank
+  to-engine =
+      let G = held (take (n + 1) at) (take m ents) in
+      let all : RankedBelow (length (take n vs)) (take n vs) rank = subst⁻¹ (λ (l : List ℕ). Ranked l rank) (L .orders) (R .ranked) in
+      record {
+        vn = post (take n vs) (length G);
+        plane = passes-plane G (take n vs) P;
+        fits = passes-fits G (take n vs) P;
+        cuts = L .cuts;
+        three = L .headed .least;
+        most = omega (arith, many-is, length-is, L .headed .most);
+        ranked = subst (λ (z : ℕ). RankedBelow z (take n vs) rank) (P .board .all) all;
+      }
+
+  pub stage-is : (k : ℕ) → stage (held (take (n + 1) at) (take m ents)) (take k (take n vs)) ≡ stageAt k s
+  unfolding stageAt
+  stage-is k = rw (L .rings, L .orders) refl
+
+pub checked-as : (s : List ℕ) (m n : ℕ) → m ≡ n → (vs at ents rank : List ℕ) → Checked s n vs at ents rank → Checked s m vs at ents rank
+checked-as s m n e vs at ents rank R = subst⁻¹ (λ (z : ℕ). Checked s z vs at ents rank) e R

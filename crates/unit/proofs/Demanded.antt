@@ -56,7 +56,8 @@ module _ (s : List ℕ) where
       (subst (λ (m : ℕ). Plane (lists s) (post (order s) 1) (post (order s) 2) (post (order s) m) × Canonical (lists s) (order s)) (sym (lists-count s)) S))
       F)
 
-stands : (r : Reply ℕ) (s : List ℕ) (k : ℕ) (b : List ℕ) → Accepted r → ((a : ℕ) → r ≡ accepted a → a ≡ 2 * k) → bufferFor r s k b ≡ entriesOf (stageAt k s) ++ drop (2 * k) b
+stands : (r : Reply ℕ) (s : List ℕ) (k : ℕ) (b : List ℕ) → Accepted r → ((a : ℕ) → r ≡ accepted a → a ≡ 2 * k)
+    → bufferFor r s k b ≡ entriesOf (stageAt k s) ++ drop (2 * k) b
 unfolding bufferFor
 stands (accepted a) s k b h f = ap (λ (m : ℕ). entriesOf (stageAt k s) ++ drop m b) (f a refl)
 stands (refused number place) s k b h f = not-both (h .1)

@@ -19,4 +19,16 @@ unfolding flatMap flatten wordsAt sumOf numbers first some mem allOf anyOf count
     allNext follows entryRule ringRule triangleRule outerRule twoPlaced from lead rest leads oneRun begins run third upTo onFrom placeOver place
     placeAll stage leftOf rightOf standing recordOf entriesOf blockRows positionRows checkRows sheetRows postRows given stageAt checkReply sheetReply
     bufferFor bufferAfter postReply bytes blockOf T D starred
-starred-given = ((refl, refl), ((refl, refl), ((refl, refl), ((refl, refl), (refl, ((refl, refl), (refl, ((refl, refl), (refl, ((refl, refl), ((refl, refl), (refl, (refl, (refl, (refl, (refl, (refl, (refl, tt))))))))))))))))))
+starred-given = (
+  (refl, refl),
+  (
+    (refl, refl),
+    (
+      (refl, refl),
+      (
+        (refl, refl),
+        (refl, ((refl, refl), (refl, ((refl, refl), (refl, ((refl, refl), ((refl, refl), (refl, (refl, (refl, (refl, (refl, (refl, (refl, tt)))))))))))))),
+      ),
+    ),
+  ),
+)

@@ -117,23 +117,28 @@ module _ (s : List ℕ) (k : ℕ) (b : List ℕ) (a : Accepted (sheetReply s k b
   sheet-x u h =
       let t = position-is (order s) k u h in
       let i = positionOf (order s) u - 1 in
-      rw written
-      (pairs-x (stageAt k s .x) (stageAt k s .y) (take k (order s)) (drop (2 * k) b) i (omega (arith, t .0, t .1, length-take k (order s))) ∙ ap (stageAt k s .x) (getD-take k (order s) i 0 (t .0) ∙ t .2))
+      let there : i < length (take k (order s)) = omega (arith, t .0, t .1, length-take k (order s)) in
+      let at = pairs-x (stageAt k s .x) (stageAt k s .y) (take k (order s)) (drop (2 * k) b) i there in
+      rw written (at ∙ ap (stageAt k s .x) (getD-take k (order s) i 0 (t .0) ∙ t .2))
 
   pub sheet-y : (u : ℕ) → Placed s k u → onSheet (order s) (thePaper .buffer s k b) .y u ≡ places s k .y u
   sheet-y u h =
       let t = position-is (order s) k u h in
       let i = positionOf (order s) u - 1 in
-      rw written
-      (pairs-y (stageAt k s .x) (stageAt k s .y) (take k (order s)) (drop (2 * k) b) i (omega (arith, t .0, t .1, length-take k (order s))) ∙ ap (stageAt k s .y) (getD-take k (order s) i 0 (t .0) ∙ t .2))
+      let there : i < length (take k (order s)) = omega (arith, t .0, t .1, length-take k (order s)) in
+      let at = pairs-y (stageAt k s .x) (stageAt k s .y) (take k (order s)) (drop (2 * k) b) i there in
+      rw written (at ∙ ap (stageAt k s .y) (getD-take k (order s) i 0 (t .0) ∙ t .2))
 
   pub sheet-safe : Safe s k (thePaper .buffer s k b)
   sheet-safe =
+      let sheet = onSheet (order s) (thePaper .buffer s k b) in
+      let stage = places s k in
+      let W = Wire (lists s) (take k (order s)) in
+      let on = on-grid s sheet-passes k sheet-least sheet-most in
+      let apart = no-short s sheet-passes k sheet-least sheet-most in
       record {
-        grid = same-grid (onSheet (order s) (thePaper .buffer s k b)) (places s k) (Placed s k) sheet-x sheet-y (2 * k - 4) (k - 2) (on-grid s sheet-passes k sheet-least sheet-most);
-        no-short =
-            same-meet (onSheet (order s) (thePaper .buffer s k b)) (places s k) (Placed s k) sheet-x sheet-y (Wire (lists s) (take k (order s))) (λ c e w. (w .0, w .1))
-            (no-short s sheet-passes k sheet-least sheet-most);
+        grid = same-grid sheet stage (Placed s k) sheet-x sheet-y (2 * k - 4) (k - 2) on;
+        no-short = same-meet sheet stage (Placed s k) sheet-x sheet-y W (λ c e w. (w .0, w .1)) apart;
       }
 
 later : (s : List ℕ) (k u : ℕ) → Placed s k u → Placed s (k + 1) u

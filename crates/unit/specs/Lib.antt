@@ -1,4 +1,5 @@
 pub mod Replies
+pub mod Asked
 pub mod Demands
 pub mod Mirror
 pub mod Starred

@@ -1,37 +1,42 @@
 // The unit: its three services. specs/ has their replies and the three demands; the refusals and the table are lamp's.
 ghost use mathlib.Core.Path.{_≡_};
-ghost use mathlib.Core.List.{_++_};
-ghost use Prim.Native.Nat.{_+_, _*_, _≤_, _<_};
-ghost use lib.ListN.{length, take, drop};
+ghost use mathlib.Core.List.{[], _∷_};
+ghost use Prim.Native.Nat.{_+_, _≤_};
+ghost use lib.ListN.{length, take};
 ghost use Rattle.block.specs.Layout.{limit, entries};
+ghost use Rattle.block.specs.Block.{posts, Headed};
 ghost use Rattle.rings.specs.Held.{held};
 ghost use Rattle.placing.specs.Stages.{stage};
-ghost use Rattle.placing.specs.Records.{recordOf, entriesOf};
 ghost use Rattle.order.specs.Fitted.{Fitted};
-ghost use Rattle.lamp.specs.Given.{accepted, replyOf, checkReply};
+ghost use Rattle.lamp.specs.Lamp.{roomRow, nameRow};
+ghost use Rattle.lamp.specs.Given.{accepted, replyOf, given, checkReply};
 ghost use Rattle.lamp.specs.Loaded.{Wide, Checked};
 ghost use Rattle.unit.specs.Replies.{sheetReply, bufferAfter, postReply, postedOf};
+ghost use Rattle.unit.specs.Asked.{furtherRows, Fits, Tells, Serves};
 use block::Block;
 use lamp::Answer;
 use lamp::Refusal;
 use placing::Record;
+use placing::Standing;
 
-fn no_names() -> [u16; 1000]
+const PLACES: usize = Block::LIMIT + 1;
+
+fn no_names() -> [u16; Block::LIMIT]
     ensures { λ r. ⌜ limit ≤ length r ⌝ }
 {
-    [0u16; 1000]
+    [0u16; Block::LIMIT]
 }
 
-fn no_places() -> [u16; 1001]
+fn no_places() -> [u16; PLACES]
     ensures { λ r. ⌜ limit + 1 ≤ length r ⌝ }
 {
-    [0u16; 1001]
+    [0u16; PLACES]
 }
 
-fn no_entries() -> [u16; 5988]
+fn no_entries() -> [u16; Block::ENTRIES]
     ensures { λ r. ⌜ entries limit ≤ length r ⌝ }
 {
-    [0u16; 5988]
+    [0u16; Block::ENTRIES]
 }
 
 // check: any bytes; accepted with the number of posts, or the refusal and place that the table fixes.
@@ -46,73 +51,53 @@ pub fn check(s: &[u8]) -> Answer
     lamp::check_into(s, &mut vs, &mut ds, &mut at, &mut ents, &mut rank)
 }
 
-// The sheet of stage k of an accepted block, into the buffer.
-fn draw_sheet(at: &[u16], ents: &[u16], vs: &[u16], rank: &[u16], k: usize, buffer: &mut [u16])
-    requires { ⌜ Fitted (now at) (now ents) (now vs) (now rank) × (3 ≤ k) × (k ≤ length (now vs)) × (2 * k ≤ length (now buffer)) ⌝ }
-    ensures { λ r. ⌜ now (buffer .exit) ≡ entriesOf (stage (held (now (at .entry)) (now (ents .entry))) (take k (now (vs .entry)))) ++ drop (2 * k) (now (buffer .entry)) ⌝ }
-{
-    let mut ys = no_names();
-    let mut off = no_names();
-    let mut cover = no_names();
-    let mut left = no_names();
-    let mut right = no_names();
-    let mut xs = no_names();
-    engine::sheet_at(
-        at,
-        ents,
-        vs,
-        rank,
-        k,
-        &mut ys,
-        &mut off,
-        &mut cover,
-        &mut left,
-        &mut right,
-        &mut xs,
-        buffer,
-    );
+// What is asked of a stage: its sheet, or the record of a post.
+enum Ask {
+    Sheet,
+    Post(usize),
 }
 
-// The record of post u at stage k of an accepted block.
-fn draw_post(at: &[u16], ents: &[u16], vs: &[u16], rank: &[u16], k: usize, u: u16) -> Record
-    requires { ⌜ Fitted (now at) (now ents) (now vs) (now rank) × (3 ≤ k) × (k ≤ length (now vs)) × (u < length (held (now at) (now ents))) ⌝ }
-    ensures { λ r. ⌜ r ≡ recordOf (stage (held (now (at .entry)) (now (ents .entry))) (take k (now (vs .entry)))) u ⌝ }
-{
-    let mut ys = no_names();
-    let mut off = no_names();
-    let mut cover = no_names();
-    let mut left = no_names();
-    let mut right = no_names();
-    let mut xs = no_names();
-    engine::post_at(
-        at,
-        ents,
-        vs,
-        rank,
-        k,
-        u,
-        &mut ys,
-        &mut off,
-        &mut cover,
-        &mut left,
-        &mut right,
-        &mut xs,
-    )
+// What is answered: the count of entries or the refusal, and the record where one is asked for.
+struct Served {
+    answer: Answer,
+    found: Record,
 }
 
-// sheet for an accepted block of n posts, held in the arrays.
-fn sheet_of(
-    s: &[u8],
-    n: usize,
-    vs: &[u16],
-    at: &[u16],
-    ents: &[u16],
-    rank: &[u16],
-    k: usize,
-    buffer: &mut [u16],
-) -> Answer
-    requires { ⌜ (checkReply (now s) ≡ accepted n) × Checked (now s) n (now vs) (now at) (now ents) (now rank) × Wide (now vs) (now at) (now ents) ⌝ }
-    ensures { λ r. ⌜ (replyOf r ≡ sheetReply (now (s .entry)) k (now (buffer .entry))) × (now (buffer .exit) ≡ bufferAfter (now (s .entry)) k (now (buffer .entry))) ⌝ }
+// Where no record is asked for.
+fn no_record() -> Record {
+    Record {
+        x: 0,
+        y: 0,
+        standing: Standing::Waiting,
+    }
+}
+
+// The room in a buffer.
+fn room_row(s: &[u8], n: usize, k: usize, room: usize) -> Answer
+    requires { ⌜ Headed (now s) n × (k ≤ n) ⌝ }
+    ensures { λ r. ⌜ replyOf r ≡ given (roomRow k room ∷ []) (now (s .entry)) posts ⌝ }
+{
+    if room < 2 * k {
+        return Answer::Refused(Refusal::Room);
+    }
+    Answer::Accepted(n as u16)
+}
+
+// The name of a post.
+fn name_row(s: &[u8], n: usize, u: usize) -> Answer
+    requires { ⌜ Headed (now s) n ⌝ }
+    ensures { λ r. ⌜ replyOf r ≡ given (nameRow u ∷ []) (now (s .entry)) posts ⌝ }
+{
+    if n <= u {
+        return Answer::Refused(Refusal::Name);
+    }
+    Answer::Accepted(n as u16)
+}
+
+// The rows that follow check's: the stage, and the one of what is asked.
+fn further(s: &[u8], n: usize, k: usize, ask: Ask, room: usize) -> Answer
+    requires { ⌜ Headed (now s) n ⌝ }
+    ensures { λ r. ⌜ replyOf r ≡ given (furtherRows ask k room) (now (s .entry)) posts ⌝ }
 {
     if k < 3 {
         return Answer::Refused(Refusal::Stage);
@@ -120,31 +105,137 @@ fn sheet_of(
     if n < k {
         return Answer::Refused(Refusal::Stage);
     }
-    if buffer.len() < 2 * k {
-        return Answer::Refused(Refusal::Room);
+    match ask {
+        Ask::Sheet => room_row(s, n, k, room),
+        Ask::Post(u) => name_row(s, n, u),
     }
+}
+
+// Stage k of an accepted block, and what is asked of it.
+fn drawn(
+    at: &[u16],
+    ents: &[u16],
+    vs: &[u16],
+    rank: &[u16],
+    k: usize,
+    ask: Ask,
+    buffer: &mut [u16],
+) -> Record
+    requires { ⌜ Fitted (now at) (now ents) (now vs) (now rank) × (3 ≤ k) × (k ≤ length (now vs))
+        × Fits ask k (length (held (now at) (now ents))) (length (now buffer)) ⌝ }
+    ensures { λ r. ⌜ Tells ask k (stage (held (now (at .entry)) (now (ents .entry))) (take k (now (vs .entry))))
+        (now (buffer .entry)) r (now (buffer .exit)) ⌝ }
+{
+    let mut ys = no_names();
+    let mut off = no_names();
+    let mut cover = no_names();
+    let mut left = no_names();
+    let mut right = no_names();
+    let mut xs = no_names();
+    match ask {
+        Ask::Sheet => {
+            engine::sheet_at(
+                at,
+                ents,
+                vs,
+                rank,
+                k,
+                &mut ys,
+                &mut off,
+                &mut cover,
+                &mut left,
+                &mut right,
+                &mut xs,
+                buffer,
+            );
+            no_record()
+        }
+        Ask::Post(u) => engine::post_at(
+            at,
+            ents,
+            vs,
+            rank,
+            k,
+            u as u16,
+            &mut ys,
+            &mut off,
+            &mut cover,
+            &mut left,
+            &mut right,
+            &mut xs,
+        ),
+    }
+}
+
+// What is asked of an accepted block of n posts, held in the arrays.
+fn answered(
+    s: &[u8],
+    n: usize,
+    vs: &[u16],
+    at: &[u16],
+    ents: &[u16],
+    rank: &[u16],
+    k: usize,
+    ask: Ask,
+    buffer: &mut [u16],
+) -> Served
+    requires { ⌜ (checkReply (now s) ≡ accepted n) × Checked (now s) n (now vs) (now at) (now ents) (now rank) × Wide (now vs) (now at) (now ents) ⌝ }
+    ensures { λ r. ⌜ Serves ask k (now (s .entry)) (now (buffer .entry)) r (now (buffer .exit)) ⌝ }
+{
+    let answer = further(s, n, k, ask, buffer.len());
+    let Answer::Accepted(_) = answer else {
+        return Served {
+            answer,
+            found: no_record(),
+        };
+    };
     let b = Block { n };
     let e = b.entries();
     let p = n + 1;
-    draw_sheet(&at[..p], &ents[..e], &vs[..n], rank, k, buffer);
-    Answer::Accepted((2 * k) as u16)
+    let found = drawn(&at[..p], &ents[..e], &vs[..n], rank, k, ask, buffer);
+    Served {
+        answer: Answer::Accepted((2 * k) as u16),
+        found,
+    }
 }
 
-// sheet: any bytes, any stage, any buffer; accepted with the count 2k of entries written, or the refusal that the table fixes, with the buffer
-// as it came.
-pub fn sheet(s: &[u8], k: usize, buffer: &mut [u16]) -> Answer
-    ensures { λ r. ⌜ (replyOf r ≡ sheetReply (now (s .entry)) k (now (buffer .entry))) × (now (buffer .exit) ≡ bufferAfter (now (s .entry)) k (now (buffer .entry))) ⌝ }
+// What sheet and post do: check, the rows that follow, and the drawing.
+fn serve(s: &[u8], k: usize, ask: Ask, buffer: &mut [u16]) -> Served
+    ensures { λ r. ⌜ Serves ask k (now (s .entry)) (now (buffer .entry)) r (now (buffer .exit)) ⌝ }
 {
     let mut vs = no_names();
     let mut ds = no_names();
     let mut at = no_places();
     let mut ents = no_entries();
     let mut rank = no_names();
-    let r = lamp::check_into(s, &mut vs, &mut ds, &mut at, &mut ents, &mut rank);
-    let Answer::Accepted(posts) = r else {
-        return r;
+    let answer = lamp::check_into(s, &mut vs, &mut ds, &mut at, &mut ents, &mut rank);
+    let Answer::Accepted(posts) = answer else {
+        return Served {
+            answer,
+            found: no_record(),
+        };
     };
-    sheet_of(s, words::number(posts), &vs, &at, &ents, &rank, k, buffer)
+    answered(
+        s,
+        words::number(posts),
+        &vs,
+        &at,
+        &ents,
+        &rank,
+        k,
+        ask,
+        buffer,
+    )
+}
+
+// sheet: any bytes, any stage, any buffer; accepted with the count 2k of entries written, or the refusal that the table fixes, with the buffer
+// as it came.
+pub fn sheet(s: &[u8], k: usize, buffer: &mut [u16]) -> Answer
+    ensures { λ r. ⌜ (replyOf r ≡ sheetReply (now (s .entry)) k (now (buffer .entry)))
+        × (now (buffer .exit) ≡ bufferAfter (now (s .entry)) k (now (buffer .entry))) ⌝ }
+{
+    let served = serve(s, k, Ask::Sheet, buffer);
+    served.answer
 }
 
 // post's reply: the post's record, or the refusal.
@@ -153,47 +244,16 @@ pub enum Posted {
     Refused(Refusal),
 }
 
-// post for an accepted block of n posts, held in the arrays.
-fn post_of(
-    s: &[u8],
-    n: usize,
-    vs: &[u16],
-    at: &[u16],
-    ents: &[u16],
-    rank: &[u16],
-    k: usize,
-    u: usize,
-) -> Posted
-    requires { ⌜ (checkReply (now s) ≡ accepted n) × Checked (now s) n (now vs) (now at) (now ents) (now rank) × Wide (now vs) (now at) (now ents) ⌝ }
-    ensures { λ r. ⌜ postedOf r ≡ postReply (now (s .entry)) k u ⌝ }
-{
-    if k < 3 {
-        return Posted::Refused(Refusal::Stage);
-    }
-    if n < k {
-        return Posted::Refused(Refusal::Stage);
-    }
-    if n <= u {
-        return Posted::Refused(Refusal::Name);
-    }
-    let b = Block { n };
-    let e = b.entries();
-    let p = n + 1;
-    Posted::Accepted(draw_post(&at[..p], &ents[..e], &vs[..n], rank, k, u as u16))
-}
-
 // post: any bytes, any stage, any name; accepted with the post's record at that stage, or the refusal that the table fixes.
 pub fn post(s: &[u8], k: usize, u: usize) -> Posted
     ensures { λ r. ⌜ postedOf r ≡ postReply (now (s .entry)) k u ⌝ }
 {
-    let mut vs = no_names();
-    let mut ds = no_names();
-    let mut at = no_places();
-    let mut ents = no_entries();
-    let mut rank = no_names();
-    let r = lamp::check_into(s, &mut vs, &mut ds, &mut at, &mut ents, &mut rank);
-    match r {
+    let mut none = [0u16; 1];
+    let served = serve(s, k, Ask::Post(u), &mut none);
+    let answer = served.answer;
+    let found = served.found;
+    match answer {
         Answer::Refused(f) => Posted::Refused(f),
-        Answer::Accepted(posts) => post_of(s, words::number(posts), &vs, &at, &ents, &rank, k, u),
+        Answer::Accepted(_) => Posted::Accepted(found),
     }
 }

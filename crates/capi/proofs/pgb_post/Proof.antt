@@ -21,10 +21,14 @@ of-refusal-requires : tie.Need-of-refusal-requires
 of-refusal-requires c κs = search needs
 
 returns : tie.Need-returns
-returns c = c .of-record .ensures ∙ sym (ap (λ (z : _). postOf (postedOf z)) (c .before .before .r .given .1)) ∙ ap postOf (c .before .before .before .before .post .ensures)
+returns c =
+    let known = c .before .before in
+    c .of-record .ensures ∙ sym (ap (λ (z : _). postOf (postedOf z)) (known .r .given .1)) ∙ ap postOf (known .before .before .post .ensures)
 
 returns-2 : tie.Need-returns-2
-returns-2 c = c .of-refusal .ensures ∙ sym (ap (λ (z : _). postOf (postedOf z)) (c .before .before .f .given .1)) ∙ ap postOf (c .before .before .before .before .post .ensures)
+returns-2 c =
+    let known = c .before .before in
+    c .of-refusal .ensures ∙ sym (ap (λ (z : _). postOf (postedOf z)) (known .f .given .1)) ∙ ap postOf (known .before .before .post .ensures)
 
 pub pgb-post-spec : {M : Type 1} → statement M
 pgb-post-spec =

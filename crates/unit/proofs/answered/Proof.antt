@@ -1,0 +1,146 @@
+use borrow.Author.Needs.{needs}
+use Rattle.unit.proofs.answered.Statement.{statement}
+use Rattle.unit.proofs.answered.Tie as tie
+use Rattle.unit.proofs.answered.Reads as reads
+use Rattle.unit.proofs.answered.Lts as lts
+use Rattle.block.proofs.Block.entries.Reads as entries-reads
+use Rattle.unit.proofs.drawn.Reads as drawn-reads
+use Rattle.unit.proofs.further.Reads as further-reads
+use Rattle.unit.proofs.no_record.Reads as no-record-reads
+use native.Mathlib.Omega.{arith}
+use Prim.Native.Nat.{_<_}
+use mathlib.Core.Path.{sym, _∙_}
+use lib.ListN.{length, take}
+use Rattle.block.specs.Layout.{limit}
+use lib.Seq.{length-take-le}
+use Rattle.unit.specs.Asked.{furtherRows}
+use Rattle.lamp.proofs.Steps.{passed}
+use Rattle.unit.proofs.Calls.{stage-fits, fits, row-refuses, serves, length-is, many-is, to-engine, stage-is}
+
+further-requires : tie.Need-further-requires
+further-requires c κs = search needs
+
+enum-told : tie.Need-enum-told
+enum-told c = search needs
+
+enum-told-2 : tie.Need-enum-told-2
+enum-told-2 c = search needs
+
+no-record-requires : tie.Need-no-record-requires
+no-record-requires c κs = search needs
+
+returns : tie.Need-returns
+returns c =
+    let past = c .before in
+    let asking = past .before .before in
+    let entry = asking .before .before .before .before .before .before .before in
+    let s = entry .args .s .now in
+    let b = entry .args .buffer .now in
+    row-refuses s (entry .args .k) b (entry .args .ask) _ _ (past .enum-told2 .given .1) _ _ (entry .pre .0) (asking .further .ensures)
+
+entries-requires : tie.Need-entries-requires
+entries-requires c κs = search needs
+
+add-p : tie.Need-add-p
+add-p c = search needs
+
+slice-aggregate-drawn : tie.Need-slice-aggregate-drawn
+slice-aggregate-drawn c = sym (length-take-le _ _ (omega arith))
+
+slice-aggregate-drawn-2 : tie.Need-slice-aggregate-drawn-2
+slice-aggregate-drawn-2 c = sym (length-take-le _ _ (omega arith))
+
+slice-aggregate-drawn-3 : tie.Need-slice-aggregate-drawn-3
+slice-aggregate-drawn-3 c = sym (length-take-le _ _ (omega arith))
+
+drawn-requires : tie.Need-drawn-requires
+drawn-requires c κs =
+    let past = c .before .before .before .before .before in
+    let asking = past .before .before in
+    let entry = asking .before .before .before .before .before .before .before in
+    let s = entry .args .s .now in
+    let k = entry .args .k in
+    let b = entry .args .buffer .now in
+    let ask = entry .args .ask in
+    let asked = asking .further in
+    let none = passed s (furtherRows ask k (length b)) (asked .result) (asked .ensures) _ (past .enum-told .given .1) in
+    let in-range = stage-fits ask s k (length b) none in
+    let R = entry .pre .1 in
+    let room : limit < length (entry .args .at .now) = omega (arith, entry .pre .2 .places) in
+    let counted = c .before .before .before .before .entries in
+    let is = length-is s _ (entry .pre .0) _ _ _ _ R room _ (counted .ensures) in
+    let E = to-engine s _ (entry .pre .0) _ _ _ _ R room _ (counted .ensures) in
+    let many = many-is s _ (entry .pre .0) _ _ _ _ R room _ (counted .ensures) in
+    (E, in-range .0, omega (arith, in-range .1, is, R .headed .is), fits ask s k (length b) _ (many ∙ R .headed .is) none)
+
+mul-t15 : tie.Need-mul-t15
+mul-t15 c =
+    let done = c .before .before in
+    let past = done .before .before .before .before .before .before in
+    let asking = past .before .before in
+    let entry = asking .before .before .before .before .before .before .before in
+    let s = entry .args .s .now in
+    let k = entry .args .k in
+    let b = entry .args .buffer .now in
+    let ask = entry .args .ask in
+    let asked = asking .further in
+    let none = passed s (furtherRows ask k (length b)) (asked .result) (asked .ensures) _ (past .enum-told .given .1) in
+    let in-range = stage-fits ask s k (length b) none in
+    omega (arith, in-range .1, entry .pre .1 .headed .is, entry .pre .1 .headed .most)
+
+cast-t25 : tie.Need-cast-t25
+cast-t25 c =
+    let done = c .before .before in
+    let past = done .before .before .before .before .before .before in
+    let asking = past .before .before in
+    let entry = asking .before .before .before .before .before .before .before in
+    let s = entry .args .s .now in
+    let k = entry .args .k in
+    let b = entry .args .buffer .now in
+    let ask = entry .args .ask in
+    let asked = asking .further in
+    let none = passed s (furtherRows ask k (length b)) (asked .result) (asked .ensures) _ (past .enum-told .given .1) in
+    let in-range = stage-fits ask s k (length b) none in
+    omega (arith, in-range .1, entry .pre .1 .headed .is, entry .pre .1 .headed .most)
+
+same-length : tie.Need-same-length
+same-length c = search needs
+
+returns-2 : tie.Need-returns-2
+returns-2 c =
+    let done = c .before .before in
+    let past = done .before .before .before .before .before .before in
+    let asking = past .before .before in
+    let entry = asking .before .before .before .before .before .before .before in
+    let s = entry .args .s .now in
+    let k = entry .args .k in
+    let b = entry .args .buffer .now in
+    let ask = entry .args .ask in
+    let asked = asking .further in
+    let none = passed s (furtherRows ask k (length b)) (asked .result) (asked .ensures) _ (past .enum-told .given .1) in
+    let in-range = stage-fits ask s k (length b) none in
+    let R = entry .pre .1 in
+    let room : limit < length (entry .args .at .now) = omega (arith, entry .pre .2 .places) in
+    let counted = done .before .before .before .before .before .entries in
+    let stage = stage-is s _ (entry .pre .0) _ _ _ _ R room _ (counted .ensures) k in
+    serves s k b ask _ _ _ _ (entry .pre .0) none stage (done .drawn .ensures)
+
+pub answered-spec : {M : Type 1} → statement M
+answered-spec =
+    tie.close
+    (tie.spec
+    further-requires
+    enum-told
+    enum-told-2
+    no-record-requires
+    returns
+    entries-requires
+    add-p
+    slice-aggregate-drawn
+    slice-aggregate-drawn-2
+    slice-aggregate-drawn-3
+    drawn-requires
+    mul-t15
+    cast-t25
+    same-length
+    returns-2)

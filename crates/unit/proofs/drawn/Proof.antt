@@ -1,0 +1,152 @@
+use borrow.Author.Needs.{needs}
+use Rattle.unit.proofs.drawn.Statement.{statement}
+use Rattle.unit.proofs.drawn.Tie as tie
+use Rattle.unit.proofs.drawn.Reads as reads
+use Rattle.unit.proofs.drawn.Lts as lts
+use Rattle.engine.proofs.post_at.Reads as post-at-reads
+use Rattle.engine.proofs.sheet_at.Reads as sheet-at-reads
+use Rattle.unit.proofs.no_names.Reads as no-names-reads
+use Rattle.unit.proofs.no_record.Reads as no-record-reads
+use native.Mathlib.Omega.{arith}
+use Rattle.unit.proofs.Calls.{fits-sheet, tells-sheet, fits-post, tells-post}
+
+no-names-requires : tie.Need-no-names-requires
+no-names-requires c κs = search needs
+
+no-names-requires-2 : tie.Need-no-names-requires-2
+no-names-requires-2 c κs = search needs
+
+no-names-requires-3 : tie.Need-no-names-requires-3
+no-names-requires-3 c κs = search needs
+
+no-names-requires-4 : tie.Need-no-names-requires-4
+no-names-requires-4 c κs = search needs
+
+no-names-requires-5 : tie.Need-no-names-requires-5
+no-names-requires-5 c κs = search needs
+
+no-names-requires-6 : tie.Need-no-names-requires-6
+no-names-requires-6 c κs = search needs
+
+enum-told : tie.Need-enum-told
+enum-told c = search needs
+
+slice-aggregate-sheet-at : tie.Need-slice-aggregate-sheet-at
+slice-aggregate-sheet-at c = search needs
+
+slice-aggregate-sheet-at-2 : tie.Need-slice-aggregate-sheet-at-2
+slice-aggregate-sheet-at-2 c = search needs
+
+slice-aggregate-sheet-at-3 : tie.Need-slice-aggregate-sheet-at-3
+slice-aggregate-sheet-at-3 c = search needs
+
+slice-aggregate-sheet-at-4 : tie.Need-slice-aggregate-sheet-at-4
+slice-aggregate-sheet-at-4 c = search needs
+
+slice-aggregate-sheet-at-5 : tie.Need-slice-aggregate-sheet-at-5
+slice-aggregate-sheet-at-5 c = search needs
+
+slice-aggregate-sheet-at-6 : tie.Need-slice-aggregate-sheet-at-6
+slice-aggregate-sheet-at-6 c = search needs
+
+sheet-at-requires : tie.Need-sheet-at-requires
+sheet-at-requires c κs =
+    let asked = c .before .before .before .before .before .before .before in
+    let made = asked .before .before .before .before .before .before .before in
+    let entry = made .before .before .before .before .before .before in
+    let fit = fits-sheet (entry .args .ask) (entry .args .k) (asked .enum-told .given .1) _ _ (entry .pre .3) in
+    (entry .pre .0, entry .pre .1, entry .pre .2, search needs, search needs, omega (arith, fit))
+
+no-record-requires : tie.Need-no-record-requires
+no-record-requires c κs = search needs
+
+enum-known-ask : tie.Need-enum-known-ask
+enum-known-ask c = search needs
+
+cast-post-at : tie.Need-cast-post-at
+cast-post-at c =
+    let asked = c .before in
+    let made = asked .before .before .before .before .before .before .before in
+    let entry = made .before .before .before .before .before .before in
+    let fit = fits-post (entry .args .ask) (entry .args .k) _ (asked .ask .given .1) _ _ (entry .pre .3) in
+    omega (arith, fit, entry .pre .0 .most)
+
+slice-aggregate-post-at : tie.Need-slice-aggregate-post-at
+slice-aggregate-post-at c = search needs
+
+slice-aggregate-post-at-2 : tie.Need-slice-aggregate-post-at-2
+slice-aggregate-post-at-2 c = search needs
+
+slice-aggregate-post-at-3 : tie.Need-slice-aggregate-post-at-3
+slice-aggregate-post-at-3 c = search needs
+
+slice-aggregate-post-at-4 : tie.Need-slice-aggregate-post-at-4
+slice-aggregate-post-at-4 c = search needs
+
+slice-aggregate-post-at-5 : tie.Need-slice-aggregate-post-at-5
+slice-aggregate-post-at-5 c = search needs
+
+slice-aggregate-post-at-6 : tie.Need-slice-aggregate-post-at-6
+slice-aggregate-post-at-6 c = search needs
+
+post-at-requires : tie.Need-post-at-requires
+post-at-requires c κs =
+    let asked = c .before .before .before .before .before .before .before in
+    let made = asked .before .before .before .before .before .before .before in
+    let entry = made .before .before .before .before .before .before in
+    let fit = fits-post (entry .args .ask) (entry .args .k) _ (asked .ask .given .1) _ _ (entry .pre .3) in
+    (entry .pre .0, entry .pre .1, entry .pre .2, search needs, search needs, fit)
+
+same-length : tie.Need-same-length
+same-length c = search needs
+
+returns : tie.Need-returns
+returns c =
+    let back = c .before .before .before .before in
+    let done = back .before .before .before .before .before in
+    let lent = done .before in
+    let asked = lent .before .before .before .before .before .before .before in
+    let made = asked .before .before .before .before .before .before .before in
+    let entry = made .before .before .before .before .before .before in
+    tells-sheet (entry .args .ask) _ (asked .enum-told .given .1) _ _ _ _ (done .sheet-at .ensures)
+
+returns-2 : tie.Need-returns-2
+returns-2 c =
+    let done = c .before .before .before .before .before .before in
+    let lent = done .before in
+    let asked = lent .before .before .before .before .before .before .before in
+    let made = asked .before .before .before .before .before .before .before in
+    let entry = made .before .before .before .before .before .before in
+    tells-post (entry .args .ask) _ _ (asked .ask .given .1) _ _ _ _ (done .post-at .ensures)
+
+pub drawn-spec : {M : Type 1} → statement M
+drawn-spec =
+    tie.close
+    (tie.spec
+    no-names-requires
+    no-names-requires-2
+    no-names-requires-3
+    no-names-requires-4
+    no-names-requires-5
+    no-names-requires-6
+    enum-told
+    slice-aggregate-sheet-at
+    slice-aggregate-sheet-at-2
+    slice-aggregate-sheet-at-3
+    slice-aggregate-sheet-at-4
+    slice-aggregate-sheet-at-5
+    slice-aggregate-sheet-at-6
+    sheet-at-requires
+    no-record-requires
+    enum-known-ask
+    cast-post-at
+    slice-aggregate-post-at
+    slice-aggregate-post-at-2
+    slice-aggregate-post-at-3
+    slice-aggregate-post-at-4
+    slice-aggregate-post-at-5
+    slice-aggregate-post-at-6
+    post-at-requires
+    same-length
+    returns
+    returns-2)

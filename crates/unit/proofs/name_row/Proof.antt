@@ -1,0 +1,27 @@
+use borrow.Author.Needs.{needs}
+use Rattle.unit.proofs.name_row.Statement.{statement}
+use Rattle.unit.proofs.name_row.Tie as tie
+use Rattle.unit.proofs.name_row.Reads as reads
+use Rattle.unit.proofs.name_row.Lts as lts
+use native.Mathlib.Omega.{arith}
+use mathlib.Core.List.{[], _∷_}
+use Rattle.lamp.specs.Lamp.{nameRow}
+use Rattle.lamp.proofs.Steps.{passes}
+use Rattle.unit.proofs.Calls.{no-name, name-fine}
+
+returns : tie.Need-returns
+returns c =
+    let entry = c .before in
+    no-name (entry .args .s .now) (entry .args .u) (omega (arith, entry .pre .is))
+
+cast-t6 : tie.Need-cast-t6
+cast-t6 c = search needs
+
+returns-2 : tie.Need-returns-2
+returns-2 c =
+    let entry = c .before in
+    let u = entry .args .u in
+    passes _ (nameRow u ∷ []) _ (entry .pre .is) (name-fine (entry .args .s .now) u (omega (arith, entry .pre .is)))
+
+pub name-row-spec : {M : Type 1} → statement M
+name-row-spec = tie.close (tie.spec returns cast-t6 returns-2)

@@ -1,0 +1,43 @@
+-- What sheet and post share: both ask for stage k of a block, and differ in one row and in what is told of the stage. Only inner contracts cite it.
+use Prim.Native.Nat.{ℕ, _*_, _≤_, _<_}
+use mathlib.Core.Path.{_≡_}
+use mathlib.Core.List.{List, [], _∷_, _++_}
+use lib.ListN.{drop}
+use Rattle.placing.specs.Stages.{Stage}
+use Rattle.placing.specs.Records.{recordOf, entriesOf}
+use Rattle.placing.specs.declared.Record.{Record}
+use Rattle.lamp.specs.Refusals.{numberOf, placeOf}
+use Rattle.lamp.specs.Lamp.{Row, stageRow, roomRow, nameRow}
+use Rattle.lamp.specs.Given.{Reply, accepted, refused, replyOf}
+use Rattle.lamp.specs.declared.Answer.{Answer}
+use Rattle.unit.specs.declared.Ask.{Ask}
+use Rattle.unit.specs.declared.Served.{Served}
+use Rattle.unit.specs.Replies.{sheetReply, bufferAfter, postReply}
+
+-- the rows that follow check's, for stage k and a buffer with room for so many entries
+abbrev pub ownRow : Ask → ℕ → ℕ → Row
+ownRow Ask.Sheet k room = roomRow k room
+ownRow (Ask.Post u) k room = nameRow u
+
+abbrev pub furtherRows : Ask → ℕ → ℕ → List Row
+furtherRows ask k room = stageRow k ∷ ownRow ask k room ∷ []
+
+-- what passing them leaves to the drawing, for n posts
+abbrev pub Fits : Ask → ℕ → ℕ → ℕ → Type 0
+Fits Ask.Sheet k n room = 2 * k ≤ room
+Fits (Ask.Post u) k n room = u < n
+
+-- what is told of a stage: the buffer b becomes its sheet, or the record is a post's
+abbrev pub Tells : Ask → ℕ → Stage → List ℕ → Record → List ℕ → Type 0
+Tells Ask.Sheet k t b r after = after ≡ entriesOf t ++ drop (2 * k) b
+Tells (Ask.Post u) k t b r after = r ≡ recordOf t u
+
+-- the reply with a record: the refusal, or the record
+abbrev pub recorded : Answer → Record → Reply Record
+recorded (Answer.Accepted n) r = accepted r
+recorded (Answer.Refused f) r = refused (numberOf f) (placeOf f)
+
+-- the whole service
+abbrev pub Serves : Ask → ℕ → List ℕ → List ℕ → Served → List ℕ → Type 0
+Serves Ask.Sheet k s b r after = (replyOf (r .answer) ≡ sheetReply s k b) × (after ≡ bufferAfter s k b)
+Serves (Ask.Post u) k s b r after = recorded (r .answer) (r .found) ≡ postReply s k u
