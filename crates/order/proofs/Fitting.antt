@@ -37,7 +37,7 @@ module _ (G : List (List ℕ)) (vn : ℕ) (vs : List ℕ) (P : Plane G (post vs 
   -- where vn stands, all its neighbours are placed
   full : (k : ℕ) → 1 ≤ k → k ≤ length vs → post vs k ≡ vn → (a : ℕ) → In a (ring G (post vs k)) → In a (earlier vs k)
   full k h i e a j =
-      let l : k ≡ length G = A .last k h i e in
+      let l = A .last k h i e in
       let f = fits-few in
       earlier-or vs fits-once k h i a (all-there (length G) vs fits-once (A .below) (omega arith) a (entry-below G fits-faces (post vs k) a j))
       (λ b. b) (λ e. absurd (entry-other G fits-faces (post vs k) a j e)) (λ b. let t = in-later vs k a b in absurd (omega (arith, t .1, t .2)))

@@ -1,11 +1,19 @@
--- Runs on board D, by computing.
+-- Runs on board D, and a list that fits there so far, by computing.
+use Prim.Native.Nat.{ℕ, zero, suc, _≤_, _<_}
 use mathlib.Core.Path.{_≡_, refl}
+use mathlib.Core.Logic.{inl, inr}
 use mathlib.Core.Bool.{true, false}
-use mathlib.Core.List.{[], _∷_}
+use mathlib.Core.List.{List, [], _∷_}
+use native.Mathlib.Omega.{arith}
+use lib.ListN.{length}
 use Rattle.words.specs.First.{first, some}
-use Rattle.words.specs.Lists.{mem, allOf, anyOf, count}
+use Rattle.words.specs.Lists.{In, mem, allOf, anyOf, count}
+use Rattle.words.specs.Positions.{post, earlier}
+use Rattle.words.proofs.Lists.{Once}
+use Rattle.words.proofs.Tests.{once-different}
 use Rattle.rings.specs.Boards.{listsD}
 use Rattle.order.specs.Order.{twoPlaced, from, lead, rest, leads, oneRun, begins, run}
+use Rattle.order.specs.Fitting.{FitsSoFar}
 
 -- the autumn block: after posts 0 and 1, post 3 has two earlier neighbours, and they are not one run
 pub two-D : twoPlaced listsD (0 ∷ 1 ∷ []) 3 ≡ true
@@ -29,3 +37,44 @@ run-across = refl
 pub run-last : run ([] ∷ [] ∷ [] ∷ [] ∷ (3 ∷ 1 ∷ 0 ∷ []) ∷ []) (0 ∷ 1 ∷ 2 ∷ 3 ∷ []) 4 ≡ 0 ∷ 3 ∷ 1 ∷ []
 unfolding first mem allOf anyOf from lead rest leads begins run
 run-last = refl
+
+-- three posts of D fit so far: 3 and vn, which is 4, still wait
+abbrev begun : List ℕ
+begun = 0 ∷ 1 ∷ 2 ∷ []
+
+third : (Q : ℕ → Type 0) → Q 3 → (k : ℕ) → 3 ≤ k → k ≤ length begun → Q k
+third Q q zero h i = absurd (omega arith)
+third Q q (suc zero) h i = absurd (omega arith)
+third Q q (suc (suc zero)) h i = absurd (omega arith)
+third Q q (suc (suc (suc zero))) h i = q
+third Q q (suc (suc (suc (suc k)))) h i = absurd (omega arith)
+
+pub fits-D : FitsSoFar listsD 4 begun
+unfolding first some mem anyOf count from rest leads twoPlaced oneRun
+fits-D =
+    record {
+      below = below;
+      once = once-different begun once;
+      two = third (λ k. twoPlaced listsD (earlier begun k) (post begun k) ≡ true) refl;
+      run = third (λ k. oneRun listsD (earlier begun k) (post begun k) ≡ true) refl;
+      last = last;
+    }
+  where
+    below : (a : ℕ) → In a begun → a < length listsD
+    below a (inl e) = omega arith
+    below a (inr (inl e)) = omega arith
+    below a (inr (inr (inl e))) = omega arith
+    below a (inr (inr (inr z))) = absurd z
+
+    once : Once begun
+    once = (
+      elim [ inl e ↦ absurd (omega (arith, e)) | inr (inl e) ↦ absurd (omega (arith, e)) | inr (inr z) ↦ absurd z ],
+      (elim [ inl e ↦ absurd (omega (arith, e)) | inr z ↦ absurd z ], ((λ z. z), tt)),
+    )
+
+    last : (k : ℕ) → 1 ≤ k → k ≤ length begun → post begun k ≡ 4 → k ≡ length listsD
+    last zero h i e = absurd (omega arith)
+    last (suc zero) h i e = absurd (omega (arith, e))
+    last (suc (suc zero)) h i e = absurd (omega (arith, e))
+    last (suc (suc (suc zero))) h i e = absurd (omega (arith, e))
+    last (suc (suc (suc (suc k)))) h i e = absurd (omega arith)
