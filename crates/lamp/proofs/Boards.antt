@@ -56,8 +56,8 @@ module _ (s vs at ents : List ℕ) (L : Trimmed s vs at ents) where
         ap (λ (z : ℕ). replyOf (Refused (Ring z))) ring-is
         ∙ sym (given-first s posts [] ringRow [] tt (found (ringFault s) 0 (posts s) u ring-is (omega (arith, n-is))))
 
-    pub rings-fine : length vs ≤ u → NoneApplies ringRows s
-    rings-fine h = (not-found (ringFault s) 0 (posts s) u ring-is (omega (arith, n-is)), tt)
+    pub rings-pass : length vs ≤ u → NoneApplies ringRows s
+    rings-pass h = (not-found (ringFault s) 0 (posts s) u ring-is (omega (arith, n-is)), tt)
 
   -- ---- the triangles
 
@@ -70,8 +70,8 @@ module _ (s vs at ents : List ℕ) (L : Trimmed s vs at ents) where
         ap (λ (z : ℕ). replyOf (Refused (Triangle z))) triangle-is
         ∙ sym (given-first s posts [] triangleRow [] tt (found (triangleFault s) 0 (posts s) u triangle-is (omega (arith, n-is))))
 
-    pub triangles-fine : length vs ≤ u → NoneApplies triangleRows s
-    triangles-fine h = (not-found (triangleFault s) 0 (posts s) u triangle-is (omega (arith, n-is)), tt)
+    pub triangles-pass : length vs ≤ u → NoneApplies triangleRows s
+    triangles-pass h = (not-found (triangleFault s) 0 (posts s) u triangle-is (omega (arith, n-is)), tt)
 
   -- ---- the outer triangle
 
@@ -82,8 +82,8 @@ module _ (s vs at ents : List ℕ) (L : Trimmed s vs at ents) where
     pub outer-bad : r ≡ false → replyOf (Refused Outer) ≡ given outerRows s posts
     outer-bad f = sym (given-first s posts [] outerRow [] tt (rw (← outer-is, f) refl))
 
-    pub outer-fine : r ≡ true → NoneApplies outerRows s
-    outer-fine f = (rw (← outer-is, f) refl, tt)
+    pub outer-passes : r ≡ true → NoneApplies outerRows s
+    outer-passes f = (rw (← outer-is, f) refl, tt)
 
   -- ---- position k, by what the rule found there
 

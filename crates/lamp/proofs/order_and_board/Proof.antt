@@ -16,7 +16,7 @@ use Rattle.lamp.specs.Lamp.{ringRows, triangleRows, outerRows}
 use Rattle.lamp.specs.Given.{given}
 use Rattle.lamp.specs.Loaded.{boardRows, rowsFrom}
 use Rattle.lamp.proofs.Given.{none-left}
-use Rattle.lamp.proofs.Steps.{passed, refuses, goes-on, never}
+use Rattle.lamp.proofs.Steps.{none-applied, stops, goes-on, never}
 use Rattle.lamp.proofs.Loads.{entered-in}
 use Rattle.lamp.proofs.Boards.{ringed}
 
@@ -33,7 +33,7 @@ returns : tie.Need-returns
 returns c =
     let asked = c .before .before .board in
     let told = c .enum-told2 .given .1 in
-    (refuses _ boardRows (asked .result) (asked .ensures) _ _ told, λ n. never _ _ n told)
+    (stops _ boardRows (asked .result) (asked .ensures) _ _ told, λ n. never _ _ n told)
 
 ranks-requires : tie.Need-ranks-requires
 ranks-requires c κs =
@@ -49,7 +49,7 @@ fitting-requires c κs =
     let asking = past .before .before in
     let asked = asking .board in
     let entry = asking .before .before .before .before .before .before in
-    let none = passed _ boardRows (asked .result) (asked .ensures) _ (past .enum-told .given .1) in
+    let none = none-applied _ boardRows (asked .result) (asked .ensures) _ (past .enum-told .given .1) in
     let fine = ringed _ (entry .pre .2) (none-left ringRows (triangleRows ++ outerRows) _ none) in
     (entry .pre .0, c .before .before .before .ranks .ensures, fine)
 

@@ -14,8 +14,8 @@ use lib.ListN.{length, take}
 use Rattle.block.specs.Layout.{limit}
 use lib.Seq.{length-take-le}
 use Rattle.unit.specs.Asked.{furtherRows}
-use Rattle.lamp.proofs.Steps.{passed}
-use Rattle.unit.proofs.Calls.{stage-fits, fits, row-refuses, serves, length-is, to-engine, stage-is}
+use Rattle.lamp.proofs.Steps.{none-applied}
+use Rattle.unit.proofs.Calls.{stage-within, within, row-refuses, serves, length-is, to-engine, stage-is}
 
 further-requires : tie.Need-further-requires
 further-requires c κs = search needs
@@ -63,14 +63,14 @@ drawn-requires c κs =
     let b = entry .args .buffer .now in
     let ask = entry .args .ask in
     let asked = asking .further in
-    let none = passed s (furtherRows ask k (length b)) (asked .result) (asked .ensures) _ (past .enum-told .given .1) in
-    let in-range = stage-fits ask s k (length b) none in
+    let none = none-applied s (furtherRows ask k (length b)) (asked .result) (asked .ensures) _ (past .enum-told .given .1) in
+    let in-range = stage-within ask s k (length b) none in
     let R = entry .pre .1 in
     let room : limit < length (entry .args .at .now) = omega (arith, entry .pre .2 .places) in
     let counted = c .before .before .before .before .entries in
     let is = length-is s _ (entry .pre .0) _ _ _ _ R room _ (counted .ensures) in
     let E = to-engine s _ (entry .pre .0) _ _ _ _ R room _ (counted .ensures) in
-    (E, in-range .0, omega (arith, in-range .1, is, R .headed .is), fits ask s k (length b) _ (is ∙ R .headed .is) none)
+    (E, in-range .0, omega (arith, in-range .1, is, R .headed .is), within ask s k (length b) _ (is ∙ R .headed .is) none)
 
 mul-t15 : tie.Need-mul-t15
 mul-t15 c =
@@ -83,8 +83,8 @@ mul-t15 c =
     let b = entry .args .buffer .now in
     let ask = entry .args .ask in
     let asked = asking .further in
-    let none = passed s (furtherRows ask k (length b)) (asked .result) (asked .ensures) _ (past .enum-told .given .1) in
-    let in-range = stage-fits ask s k (length b) none in
+    let none = none-applied s (furtherRows ask k (length b)) (asked .result) (asked .ensures) _ (past .enum-told .given .1) in
+    let in-range = stage-within ask s k (length b) none in
     omega (arith, in-range .1, entry .pre .1 .headed .is, entry .pre .1 .headed .most)
 
 cast-t25 : tie.Need-cast-t25
@@ -98,8 +98,8 @@ cast-t25 c =
     let b = entry .args .buffer .now in
     let ask = entry .args .ask in
     let asked = asking .further in
-    let none = passed s (furtherRows ask k (length b)) (asked .result) (asked .ensures) _ (past .enum-told .given .1) in
-    let in-range = stage-fits ask s k (length b) none in
+    let none = none-applied s (furtherRows ask k (length b)) (asked .result) (asked .ensures) _ (past .enum-told .given .1) in
+    let in-range = stage-within ask s k (length b) none in
     omega (arith, in-range .1, entry .pre .1 .headed .is, entry .pre .1 .headed .most)
 
 same-length : tie.Need-same-length
@@ -116,8 +116,8 @@ returns-2 c =
     let b = entry .args .buffer .now in
     let ask = entry .args .ask in
     let asked = asking .further in
-    let none = passed s (furtherRows ask k (length b)) (asked .result) (asked .ensures) _ (past .enum-told .given .1) in
-    let in-range = stage-fits ask s k (length b) none in
+    let none = none-applied s (furtherRows ask k (length b)) (asked .result) (asked .ensures) _ (past .enum-told .given .1) in
+    let in-range = stage-within ask s k (length b) none in
     let R = entry .pre .1 in
     let room : limit < length (entry .args .at .now) = omega (arith, entry .pre .2 .places) in
     let counted = done .before .before .before .before .before .entries in

@@ -6,8 +6,8 @@ use Rattle.unit.proofs.room_row.Lts as lts
 use native.Mathlib.Omega.{arith}
 use mathlib.Core.List.{[], _∷_}
 use Rattle.lamp.specs.Lamp.{roomRow}
-use Rattle.lamp.proofs.Steps.{passes}
-use Rattle.unit.proofs.Calls.{no-room, room-fine}
+use Rattle.lamp.proofs.Steps.{none-stops}
+use Rattle.unit.proofs.Calls.{no-room, room-passes}
 
 mul-if1 : tie.Need-mul-if1
 mul-if1 c = search needs
@@ -25,7 +25,7 @@ returns-2 c =
     let entry = c .before in
     let k = entry .args .k in
     let room = entry .args .room in
-    passes _ (roomRow k room ∷ []) _ (entry .pre .0 .is) (room-fine (entry .args .s .now) k room (omega arith))
+    none-stops _ (roomRow k room ∷ []) _ (entry .pre .0 .is) (room-passes (entry .args .s .now) k room (omega arith))
 
 pub room-row-spec : {M : Type 1} → statement M
 room-row-spec = tie.close (tie.spec mul-if1 returns cast-t8 returns-2)

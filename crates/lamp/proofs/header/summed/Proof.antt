@@ -13,8 +13,8 @@ use Rattle.words.specs.Numbers.{wordAt, wrapped}
 use Rattle.block.specs.Layout.{sumAt}
 use Rattle.block.specs.Block.{posts, statedSum, earlierSum}
 use Rattle.lamp.specs.Lamp.{sumRows}
-use Rattle.lamp.proofs.Steps.{passes}
-use Rattle.lamp.proofs.Heads.{other-sum, sum-fine}
+use Rattle.lamp.proofs.Steps.{none-stops}
+use Rattle.lamp.proofs.Heads.{other-sum, sum-passes}
 
 cast-n : tie.Need-cast-n
 cast-n c = search needs
@@ -44,7 +44,7 @@ returns-2 c =
     let e : c .before .before .before .sum-at .result ≡ sumAt (posts s) = c .before .before .before .sum-at .ensures ∙ ap sumAt (entry .pre .is) in
     let stated : c .before .before .word .result ≡ statedSum s = c .before .before .word .ensures ∙ ap (wordAt s) e in
     let added : c .before .sum .result ≡ earlierSum s = c .before .sum .ensures ∙ ap (λ (k : ℕ). wrapped (take k s)) e in
-    passes s sumRows _ (entry .pre .is) (sum-fine s (sym stated ∙ c .if1 .left ∙ added))
+    none-stops s sumRows _ (entry .pre .is) (sum-passes s (sym stated ∙ c .if1 .left ∙ added))
 
 pub summed-spec : {M : Type 1} → statement M
 summed-spec =
