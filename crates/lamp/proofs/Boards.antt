@@ -19,7 +19,7 @@ use Rattle.order.specs.declared.Fit.{Fit}
 use Rattle.order.proofs.Sound.{position-says}
 use Rattle.lamp.specs.Lamp.{name, ringFault, triangleFault, ringRow, triangleRow, outerRow, fewRow, brokenRow}
 use Rattle.lamp.specs.Lamp.{ringRows, triangleRows, outerRows, positionRows, checkRows, blockRows, headerRows, sumRows}
-use Rattle.lamp.specs.Given.{Reply, accepted, refused, replyOf, given, checkReply, NoneApplies}
+use Rattle.lamp.specs.Given.{accepted, refused, replyOf, given, checkReply, NoneApplies}
 use Rattle.lamp.specs.Loaded.{loadRows, loadedRows, rowsFrom, Trimmed, Entered, Ringed}
 use Rattle.lamp.specs.declared.Refusal.the-variants.{Ring, Triangle, Outer, Few, Broken}
 use Rattle.lamp.specs.declared.Answer.{Answer}

@@ -1,7 +1,7 @@
 -- The header's groups, by what the code compared; and what their passing means.
 use Prim.Native.Nat.{ℕ, _≤_, _<_}
 use mathlib.Core.Path.{_≡_, refl, sym, ap, _∙_}
-use mathlib.Core.Bool.{Bool, true, false, not, _&&_, _||_, true≢false}
+use mathlib.Core.Bool.{Bool, true, false, not, _&&_, true≢false}
 use mathlib.Core.List.{List, [], _∷_, _++_}
 use native.Mathlib.Omega.{arith}
 use lib.Dec.{ltb, eqb}
@@ -12,11 +12,10 @@ use Rattle.words.proofs.Tests.{neither}
 use Rattle.block.specs.Layout.{limit, size}
 use Rattle.block.specs.Block.{mark, version, posts, statedSum, earlierSum, marked, Framed, Headed}
 use Rattle.lamp.specs.Lamp.{shortRow, markRow, versionRow, postsRow, lengthRow, sumRow, openingRows, sizeRows, headerRows, sumRows}
-use Rattle.lamp.specs.Given.{accepted, replyOf, given, NoneApplies}
+use Rattle.lamp.specs.Given.{replyOf, given, NoneApplies}
 use Rattle.lamp.specs.declared.Refusal.the-variants.{Short, Mark, Version, Posts, Length, Sum}
 use Rattle.lamp.specs.declared.Answer.the-variants.{Refused}
 use Rattle.lamp.proofs.Given.{given-first, none-left, none-right}
-use Rattle.lamp.proofs.Steps.{none-stops}
 
 both-true : (x y : Bool) → x && y ≡ true → (x ≡ true) × (y ≡ true)
 both-true true y e = (refl, e)

@@ -1,7 +1,6 @@
 -- What sheet and post reply, by what check answered and what the rows after it gave; and the buffer after a sheet call.
 use Prim.Native.Nat.{ℕ, _+_, _*_, _≤_, _<_}
 use mathlib.Core.Path.{_≡_, refl, sym, ap, _∙_, subst, subst⁻¹}
-use mathlib.Core.Bool.{false}
 use mathlib.Core.List.{List, [], _∷_, _++_}
 use native.Mathlib.Omega.{arith}
 use lib.Dec.{ltb}
@@ -30,9 +29,8 @@ use Rattle.lamp.proofs.Steps.{stops}
 use Rattle.lamp.proofs.Loads.{trimmed}
 use Rattle.lamp.proofs.Accepts.{none-passes, accepted-none}
 use Rattle.unit.specs.declared.Ask.{Ask}
-use Rattle.unit.specs.declared.Served.{Served}
 use Rattle.unit.specs.Replies.{stageAt, sheetReply, bufferFor, bufferAfter, postReply}
-use Rattle.unit.specs.Asked.{ownRow, furtherRows, Within, Tells, Serves}
+use Rattle.unit.specs.Asked.{furtherRows, Within, Tells, Serves}
 
 -- ---- the rows after check's, by what the code compared
 

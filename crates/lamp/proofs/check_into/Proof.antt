@@ -6,8 +6,7 @@ use Rattle.lamp.proofs.check_into.Lts as lts
 use Rattle.lamp.proofs.body.Reads as body-reads
 use Rattle.lamp.proofs.header.header.Reads as header-reads
 use Rattle.words.proofs.number.Reads as number-reads
-use native.Mathlib.Omega.{arith}
-use mathlib.Core.Path.{sym, ap, _∙_}
+use mathlib.Core.Path.{_∙_}
 use mathlib.Core.List.{_++_}
 use Rattle.lamp.specs.Lamp.{headerRows, sumRows}
 use Rattle.lamp.specs.Loaded.{loadRows, loadedRows}

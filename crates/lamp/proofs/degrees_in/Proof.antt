@@ -7,10 +7,9 @@ use Rattle.block.proofs.Block.entries.Reads as entries-reads
 use Rattle.block.proofs.read_degrees.Reads as read-degrees-reads
 use Rattle.block.proofs.total.Reads as total-reads
 use native.Mathlib.Omega.{arith}
-use mathlib.Core.Path.{_≡_, sym, ap, _∙_}
+use mathlib.Core.Path.{sym, ap, _∙_}
 use Rattle.words.specs.Numbers.{sumOf}
 use Rattle.block.specs.Layout.{entries}
-use Rattle.block.specs.Block.{degrees}
 use Rattle.rings.proofs.Read.{degrees-count}
 use Rattle.lamp.specs.Lamp.{degreeRows}
 use Rattle.lamp.proofs.Steps.{none-stops}

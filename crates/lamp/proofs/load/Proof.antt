@@ -7,7 +7,7 @@ use Rattle.lamp.proofs.degrees_in.Reads as degrees-in-reads
 use Rattle.lamp.proofs.order_in.Reads as order-in-reads
 use Rattle.rings.proofs.read_lists.Reads as read-lists-reads
 use native.Mathlib.Omega.{arith}
-use mathlib.Core.Path.{_≡_, sym, ap, _∙_}
+use mathlib.Core.Path.{sym, ap, _∙_}
 use Rattle.words.specs.Numbers.{sumOf}
 use Rattle.block.specs.Layout.{entries}
 use Rattle.rings.proofs.Read.{degrees-count}

@@ -8,7 +8,7 @@ use Rattle.lamp.proofs.board.fitting.Reads as fitting-reads
 use Rattle.order.proofs.ranks.Reads as ranks-reads
 use native.Mathlib.Omega.{arith}
 use Prim.Native.Nat.{ℕ}
-use mathlib.Core.Path.{sym, ap, _∙_, subst}
+use mathlib.Core.Path.{ap, _∙_, subst}
 use mathlib.Core.List.{List, _++_}
 use Rattle.block.specs.Block.{posts}
 use Rattle.order.specs.Held.{Ranked}

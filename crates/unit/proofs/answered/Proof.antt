@@ -10,7 +10,7 @@ use Rattle.unit.proofs.no_record.Reads as no-record-reads
 use native.Mathlib.Omega.{arith}
 use Prim.Native.Nat.{_<_}
 use mathlib.Core.Path.{sym, _∙_}
-use lib.ListN.{length, take}
+use lib.ListN.{length}
 use Rattle.block.specs.Layout.{limit}
 use lib.Seq.{length-take-le}
 use Rattle.unit.specs.Asked.{furtherRows}

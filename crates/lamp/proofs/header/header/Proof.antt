@@ -7,7 +7,7 @@ use Rattle.lamp.proofs.header.opening.Reads as opening-reads
 use Rattle.lamp.proofs.header.sized.Reads as sized-reads
 use Rattle.lamp.proofs.header.summed.Reads as summed-reads
 use Rattle.words.proofs.number.Reads as number-reads
-use mathlib.Core.Path.{sym, _∙_}
+use mathlib.Core.Path.{_∙_}
 use mathlib.Core.List.{_++_}
 use Rattle.lamp.specs.Lamp.{openingRows, sizeRows, sumRows}
 use Rattle.lamp.proofs.Steps.{counts, none-applied, stops, goes-on}
