@@ -1,10 +1,6 @@
 use borrow.Author.Needs.{needs}
 use Rattle.lamp.proofs.body.Statement.{statement}
 use Rattle.lamp.proofs.body.Tie as tie
-use Rattle.lamp.proofs.body.Reads as reads
-use Rattle.lamp.proofs.body.Lts as lts
-use Rattle.lamp.proofs.load.Reads as load-reads
-use Rattle.lamp.proofs.loaded.Reads as loaded-reads
 use Prim.Native.Nat.{ℕ}
 use mathlib.Core.Path.{_≡_, sym, ap, _∙_}
 use Rattle.block.specs.Block.{posts}

@@ -1,11 +1,6 @@
 use borrow.Author.Needs.{needs}
 use Rattle.lamp.proofs.check_into.Statement.{statement}
 use Rattle.lamp.proofs.check_into.Tie as tie
-use Rattle.lamp.proofs.check_into.Reads as reads
-use Rattle.lamp.proofs.check_into.Lts as lts
-use Rattle.lamp.proofs.body.Reads as body-reads
-use Rattle.lamp.proofs.header.header.Reads as header-reads
-use Rattle.words.proofs.number.Reads as number-reads
 use mathlib.Core.Path.{_∙_}
 use mathlib.Core.List.{_++_}
 use Rattle.lamp.specs.Lamp.{headerRows, sumRows}

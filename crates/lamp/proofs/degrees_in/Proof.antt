@@ -1,11 +1,6 @@
 use borrow.Author.Needs.{needs}
 use Rattle.lamp.proofs.degrees_in.Statement.{statement}
 use Rattle.lamp.proofs.degrees_in.Tie as tie
-use Rattle.lamp.proofs.degrees_in.Reads as reads
-use Rattle.lamp.proofs.degrees_in.Lts as lts
-use Rattle.block.proofs.Block.entries.Reads as entries-reads
-use Rattle.block.proofs.read_degrees.Reads as read-degrees-reads
-use Rattle.block.proofs.total.Reads as total-reads
 use native.Mathlib.Omega.{arith}
 use mathlib.Core.Path.{sym, ap, _∙_}
 use Rattle.words.specs.Numbers.{sumOf}

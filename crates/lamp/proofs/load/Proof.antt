@@ -1,11 +1,6 @@
 use borrow.Author.Needs.{needs}
 use Rattle.lamp.proofs.load.Statement.{statement}
 use Rattle.lamp.proofs.load.Tie as tie
-use Rattle.lamp.proofs.load.Reads as reads
-use Rattle.lamp.proofs.load.Lts as lts
-use Rattle.lamp.proofs.degrees_in.Reads as degrees-in-reads
-use Rattle.lamp.proofs.order_in.Reads as order-in-reads
-use Rattle.rings.proofs.read_lists.Reads as read-lists-reads
 use native.Mathlib.Omega.{arith}
 use mathlib.Core.Path.{sym, ap, _∙_}
 use Rattle.words.specs.Numbers.{sumOf}

@@ -1,11 +1,6 @@
 use borrow.Author.Needs.{needs}
 use Rattle.lamp.proofs.order_and_board.Statement.{statement}
 use Rattle.lamp.proofs.order_and_board.Tie as tie
-use Rattle.lamp.proofs.order_and_board.Reads as reads
-use Rattle.lamp.proofs.order_and_board.Lts as lts
-use Rattle.lamp.proofs.board.board.Reads as board-reads
-use Rattle.lamp.proofs.board.fitting.Reads as fitting-reads
-use Rattle.order.proofs.ranks.Reads as ranks-reads
 use native.Mathlib.Omega.{arith}
 use Prim.Native.Nat.{ℕ}
 use mathlib.Core.Path.{ap, _∙_, subst}

@@ -1,9 +1,6 @@
 use borrow.Author.Needs.{needs}
 use Rattle.lamp.proofs.order_in.Statement.{statement}
 use Rattle.lamp.proofs.order_in.Tie as tie
-use Rattle.lamp.proofs.order_in.Reads as reads
-use Rattle.lamp.proofs.order_in.Lts as lts
-use Rattle.block.proofs.read_order.Reads as read-order-reads
 use Rattle.lamp.specs.Lamp.{orderRows}
 use Rattle.lamp.proofs.Steps.{none-stops}
 use Rattle.lamp.proofs.Loads.{entry-bad, entries-pass}

@@ -1,12 +1,6 @@
 use borrow.Author.Needs.{needs}
 use Rattle.unit.proofs.answered.Statement.{statement}
 use Rattle.unit.proofs.answered.Tie as tie
-use Rattle.unit.proofs.answered.Reads as reads
-use Rattle.unit.proofs.answered.Lts as lts
-use Rattle.block.proofs.Block.entries.Reads as entries-reads
-use Rattle.unit.proofs.drawn.Reads as drawn-reads
-use Rattle.unit.proofs.further.Reads as further-reads
-use Rattle.unit.proofs.no_record.Reads as no-record-reads
 use native.Mathlib.Omega.{arith}
 use Prim.Native.Nat.{_<_}
 use mathlib.Core.Path.{sym, _∙_}

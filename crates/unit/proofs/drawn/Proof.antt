@@ -1,12 +1,6 @@
 use borrow.Author.Needs.{needs}
 use Rattle.unit.proofs.drawn.Statement.{statement}
 use Rattle.unit.proofs.drawn.Tie as tie
-use Rattle.unit.proofs.drawn.Reads as reads
-use Rattle.unit.proofs.drawn.Lts as lts
-use Rattle.engine.proofs.post_at.Reads as post-at-reads
-use Rattle.engine.proofs.sheet_at.Reads as sheet-at-reads
-use Rattle.unit.proofs.no_names.Reads as no-names-reads
-use Rattle.unit.proofs.no_record.Reads as no-record-reads
 use native.Mathlib.Omega.{arith}
 use Rattle.unit.proofs.Calls.{within-sheet, tells-sheet, within-post, tells-post}
 

@@ -1,8 +1,6 @@
 use borrow.Author.Needs.{needs}
 use Rattle.unit.proofs.name_row.Statement.{statement}
 use Rattle.unit.proofs.name_row.Tie as tie
-use Rattle.unit.proofs.name_row.Reads as reads
-use Rattle.unit.proofs.name_row.Lts as lts
 use native.Mathlib.Omega.{arith}
 use mathlib.Core.List.{[], _∷_}
 use Rattle.lamp.specs.Lamp.{nameRow}

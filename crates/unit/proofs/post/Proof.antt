@@ -1,9 +1,6 @@
 use borrow.Author.Needs.{needs}
 use Rattle.unit.proofs.post.Statement.{statement}
 use Rattle.unit.proofs.post.Tie as tie
-use Rattle.unit.proofs.post.Reads as reads
-use Rattle.unit.proofs.post.Lts as lts
-use Rattle.unit.proofs.serve.Reads as serve-reads
 use mathlib.Core.Path.{sym, ap, _∙_}
 use Rattle.lamp.specs.declared.Answer.{Answer}
 use Rattle.unit.specs.Asked.{recordReply}

@@ -1,11 +1,6 @@
 use borrow.Author.Needs.{needs}
 use Rattle.lamp.proofs.board.board.Statement.{statement}
 use Rattle.lamp.proofs.board.board.Tie as tie
-use Rattle.lamp.proofs.board.board.Reads as reads
-use Rattle.lamp.proofs.board.board.Lts as lts
-use Rattle.lamp.proofs.board.outer_of.Reads as outer-of-reads
-use Rattle.lamp.proofs.board.rings_of.Reads as rings-of-reads
-use Rattle.lamp.proofs.board.triangles_of.Reads as triangles-of-reads
 use mathlib.Core.Path.{_∙_}
 use mathlib.Core.List.{_++_}
 use Rattle.lamp.specs.Lamp.{ringRows, triangleRows, outerRows}

@@ -1,9 +1,6 @@
 use borrow.Author.Needs.{needs}
 use Rattle.lamp.proofs.board.outer_of.Statement.{statement}
 use Rattle.lamp.proofs.board.outer_of.Tie as tie
-use Rattle.lamp.proofs.board.outer_of.Reads as reads
-use Rattle.lamp.proofs.board.outer_of.Lts as lts
-use Rattle.rings.proofs.is_outer.Reads as is-outer-reads
 use borrow.Author.Tests.{not-true, not-false}
 use Rattle.lamp.specs.Lamp.{outerRows}
 use Rattle.lamp.proofs.Steps.{none-stops}

@@ -1,12 +1,6 @@
 use borrow.Author.Needs.{needs}
 use Rattle.lamp.proofs.header.header.Statement.{statement}
 use Rattle.lamp.proofs.header.header.Tie as tie
-use Rattle.lamp.proofs.header.header.Reads as reads
-use Rattle.lamp.proofs.header.header.Lts as lts
-use Rattle.lamp.proofs.header.opening.Reads as opening-reads
-use Rattle.lamp.proofs.header.sized.Reads as sized-reads
-use Rattle.lamp.proofs.header.summed.Reads as summed-reads
-use Rattle.words.proofs.number.Reads as number-reads
 use mathlib.Core.Path.{_∙_}
 use mathlib.Core.List.{_++_}
 use Rattle.lamp.specs.Lamp.{openingRows, sizeRows, sumRows}

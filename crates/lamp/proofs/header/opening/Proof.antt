@@ -1,10 +1,6 @@
 use borrow.Author.Needs.{needs}
 use Rattle.lamp.proofs.header.opening.Statement.{statement}
 use Rattle.lamp.proofs.header.opening.Tie as tie
-use Rattle.lamp.proofs.header.opening.Reads as reads
-use Rattle.lamp.proofs.header.opening.Lts as lts
-use Rattle.block.proofs.is_marked.Reads as is-marked-reads
-use Rattle.words.proofs.word.Reads as word-reads
 use mathlib.Core.Path.{sym, _∙_}
 use borrow.Author.Tests.{not-true, not-false}
 use Rattle.lamp.specs.Lamp.{openingRows}

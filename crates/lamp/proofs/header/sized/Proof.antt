@@ -1,9 +1,6 @@
 use borrow.Author.Needs.{needs}
 use Rattle.lamp.proofs.header.sized.Statement.{statement}
 use Rattle.lamp.proofs.header.sized.Tie as tie
-use Rattle.lamp.proofs.header.sized.Reads as reads
-use Rattle.lamp.proofs.header.sized.Lts as lts
-use Rattle.block.proofs.Block.size.Reads as size-reads
 use native.Mathlib.Omega.{arith}
 use mathlib.Core.Path.{sym, ap, _∙_}
 use Rattle.block.specs.Layout.{size}

@@ -1,11 +1,6 @@
 use borrow.Author.Needs.{needs}
 use Rattle.lamp.proofs.header.summed.Statement.{statement}
 use Rattle.lamp.proofs.header.summed.Tie as tie
-use Rattle.lamp.proofs.header.summed.Reads as reads
-use Rattle.lamp.proofs.header.summed.Lts as lts
-use Rattle.block.proofs.Block.sum_at.Reads as sum-at-reads
-use Rattle.words.proofs.sum.Reads as sum-reads
-use Rattle.words.proofs.word.Reads as word-reads
 use Prim.Native.Nat.{ℕ}
 use mathlib.Core.Path.{_≡_, sym, ap, _∙_}
 use lib.ListN.{take}
