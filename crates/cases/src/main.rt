@@ -1,260 +1,12 @@
 // The paper's numbered cases, unstarred ones included, each run and printed; and what the bench program prints for T, for case 5 and for an
 // empty input.
-// Board T, sum 236.
-fn board_t() -> [u8; 33] {
-    [
-        80,
-        71,
-        66,
-        0,
-        1,
-        0,
-        3,
-        0,
-        0,
-        0,
-        1,
-        0,
-        2,
-        0,
-        2,
-        0,
-        2,
-        0,
-        2,
-        0,
-        1,
-        0,
-        2,
-        0,
-        2,
-        0,
-        0,
-        0,
-        0,
-        0,
-        1,
-        0,
-        236,
-    ]
-}
+mod boards;
 
-// Board D, sum 285.
-fn board_d() -> [u8; 65] {
-    [
-        80,
-        71,
-        66,
-        0,
-        1,
-        0,
-        5,
-        0,
-        0,
-        0,
-        1,
-        0,
-        2,
-        0,
-        3,
-        0,
-        4,
-        0,
-        4,
-        0,
-        4,
-        0,
-        3,
-        0,
-        4,
-        0,
-        3,
-        0,
-        1,
-        0,
-        2,
-        0,
-        3,
-        0,
-        4,
-        0,
-        4,
-        0,
-        3,
-        0,
-        2,
-        0,
-        0,
-        0,
-        0,
-        0,
-        1,
-        0,
-        3,
-        0,
-        0,
-        0,
-        2,
-        0,
-        1,
-        0,
-        4,
-        0,
-        0,
-        0,
-        3,
-        0,
-        1,
-        1,
-        29,
-    ]
-}
-
-// Case 5: board D with order 0 1 3 2 4, which has the same sum.
-fn autumn() -> [u8; 65] {
-    [
-        80,
-        71,
-        66,
-        0,
-        1,
-        0,
-        5,
-        0,
-        0,
-        0,
-        1,
-        0,
-        3,
-        0,
-        2,
-        0,
-        4,
-        0,
-        4,
-        0,
-        4,
-        0,
-        3,
-        0,
-        4,
-        0,
-        3,
-        0,
-        1,
-        0,
-        2,
-        0,
-        3,
-        0,
-        4,
-        0,
-        4,
-        0,
-        3,
-        0,
-        2,
-        0,
-        0,
-        0,
-        0,
-        0,
-        1,
-        0,
-        3,
-        0,
-        0,
-        0,
-        2,
-        0,
-        1,
-        0,
-        4,
-        0,
-        0,
-        0,
-        3,
-        0,
-        1,
-        1,
-        29,
-    ]
-}
-
-// Case 11: board D with order 0 1 2 2 4 and the sum 284.
-fn twice() -> [u8; 65] {
-    [
-        80,
-        71,
-        66,
-        0,
-        1,
-        0,
-        5,
-        0,
-        0,
-        0,
-        1,
-        0,
-        2,
-        0,
-        2,
-        0,
-        4,
-        0,
-        4,
-        0,
-        4,
-        0,
-        3,
-        0,
-        4,
-        0,
-        3,
-        0,
-        1,
-        0,
-        2,
-        0,
-        3,
-        0,
-        4,
-        0,
-        4,
-        0,
-        3,
-        0,
-        2,
-        0,
-        0,
-        0,
-        0,
-        0,
-        1,
-        0,
-        3,
-        0,
-        0,
-        0,
-        2,
-        0,
-        1,
-        0,
-        4,
-        0,
-        0,
-        0,
-        3,
-        0,
-        1,
-        1,
-        28,
-    ]
-}
+use block::Block;
 
 fn sheets() {
-    let t = board_t();
-    let d = board_d();
+    let t = boards::board_t();
+    let d = boards::board_d();
     let mut six = [9u16; 7];
     show::text(b"1. T, stage 3: ");
     show::reply_of_sheet(&t, 3, &mut six);
@@ -270,13 +22,13 @@ fn sheets() {
 }
 
 fn autumn_block() {
-    let d = autumn();
+    let d = boards::autumn();
     show::text(b"5. D with order 0 1 3 2 4: ");
     show::check(&d);
 }
 
 fn rooms() {
-    let d = board_d();
+    let d = boards::board_d();
     let mut b = [9u16; 12];
     show::text(b"6. D, stage 2: ");
     show::reply_of_sheet(&d, 2, &mut b);
@@ -291,7 +43,7 @@ fn rooms() {
 }
 
 fn records() {
-    let d = board_d();
+    let d = boards::board_d();
     show::text(b"7. D, post 2 at stage 3: ");
     show::reply_of_post(&d, 3, 2);
     show::text(b"7. D, post 2 at stage 4: ");
@@ -303,7 +55,7 @@ fn records() {
 }
 
 fn sums() {
-    let mut t = board_t();
+    let mut t = boards::board_t();
     show::text(b"9. T with its last byte removed: ");
     show::check_front(&t, 32);
     t[32] = 237;
@@ -312,7 +64,7 @@ fn sums() {
 }
 
 fn heads() {
-    let mut d = board_d();
+    let mut d = boards::board_d();
     show::text(b"10. an empty block: ");
     show::check_front(&d, 0);
     show::text(b"10. a block of 6 bytes: ");
@@ -320,18 +72,19 @@ fn heads() {
     d[6] = 2;
     show::text(b"10. n = 2: ");
     show::check(&d);
-    d[5] = 3;
-    d[6] = 233;
-    show::text(b"10. n = 1,001: ");
+    let many = Block::LIMIT + 1;
+    d[5] = (many / 256 % 256) as u8;
+    d[6] = (many % 256) as u8;
+    show::text(b"10. n one above the limit: ");
     show::check(&d);
-    let e = twice();
+    let e = boards::twice();
     show::text(b"11. D with order 0 1 2 2 4: ");
     show::check(&e);
 }
 
 fn programs() {
-    let t = board_t();
-    let d = autumn();
+    let t = boards::board_t();
+    let d = boards::autumn();
     show::text(b"the program on T:\n");
     show::last_sheet(&t);
     show::text(b"the program on case 5:\n");

@@ -29,24 +29,24 @@ use Rattle.lamp.proofs.Loads.{order-length, totalled}
 
 -- ---- the lists are as long as the degrees say
 
-from-lengths : (s : List ℕ) (i : ℕ) (ds : List ℕ) → map length (listsFrom s i ds) ≡ ds
+lengths-from : (s : List ℕ) (i : ℕ) (ds : List ℕ) → map length (listsFrom s i ds) ≡ ds
 unfolding listsFrom
-from-lengths s i [] = refl
-from-lengths s i (d ∷ ds) = rw (words-length s d i, from-lengths s (i + 2 * d) ds) refl
+lengths-from s i [] = refl
+lengths-from s i (d ∷ ds) = rw (words-length s d i, lengths-from s (i + 2 * d) ds) refl
 
-from-count : (s : List ℕ) (i : ℕ) (ds : List ℕ) → length (listsFrom s i ds) ≡ length ds
+count-from : (s : List ℕ) (i : ℕ) (ds : List ℕ) → length (listsFrom s i ds) ≡ length ds
 unfolding listsFrom
-from-count s i [] = refl
-from-count s i (d ∷ ds) = ap suc (from-count s (i + 2 * d) ds)
+count-from s i [] = refl
+count-from s i (d ∷ ds) = ap suc (count-from s (i + 2 * d) ds)
 
 module _ (s : List ℕ) where
   pub lists-degrees : map length (lists s) ≡ degrees s
   unfolding lists
-  lists-degrees = from-lengths s (listsAt (posts s)) (degrees s)
+  lists-degrees = lengths-from s (listsAt (posts s)) (degrees s)
 
   pub lists-count : length (lists s) ≡ posts s
   unfolding lists degrees
-  lists-count = from-count s (listsAt (posts s)) (degrees s) ∙ words-length s (posts s) _
+  lists-count = count-from s (listsAt (posts s)) (degrees s) ∙ words-length s (posts s) _
 
 -- ---- the rule per position
 

@@ -1,7 +1,7 @@
 -- The header's groups, by what the code compared; and what their passing means.
 use Prim.Native.Nat.{ℕ, _≤_, _<_}
 use mathlib.Core.Path.{_≡_, refl, sym, ap, _∙_}
-use mathlib.Core.Bool.{Bool, true, false, not, _&&_, _||_, true≢false}
+use mathlib.Core.Bool.{Bool, true, false, not, _&&_, true≢false}
 use mathlib.Core.List.{List, [], _∷_, _++_}
 use native.Mathlib.Omega.{arith}
 use lib.Dec.{ltb, eqb}
@@ -12,11 +12,10 @@ use Rattle.words.proofs.Tests.{neither}
 use Rattle.block.specs.Layout.{limit, size}
 use Rattle.block.specs.Block.{mark, version, posts, statedSum, earlierSum, marked, Framed, Headed}
 use Rattle.lamp.specs.Lamp.{shortRow, markRow, versionRow, postsRow, lengthRow, sumRow, openingRows, sizeRows, headerRows, sumRows}
-use Rattle.lamp.specs.Given.{accepted, replyOf, given, NoneApplies}
+use Rattle.lamp.specs.Given.{replyOf, given, NoneApplies}
 use Rattle.lamp.specs.declared.Refusal.the-variants.{Short, Mark, Version, Posts, Length, Sum}
 use Rattle.lamp.specs.declared.Answer.the-variants.{Refused}
 use Rattle.lamp.proofs.Given.{given-first, none-left, none-right}
-use Rattle.lamp.proofs.Steps.{passes}
 
 both-true : (x y : Bool) → x && y ≡ true → (x ≡ true) × (y ≡ true)
 both-true true y e = (refl, e)
@@ -54,16 +53,16 @@ module _ (s : List ℕ) where
     not-short : shortRow .when s ≡ false
     not-short = le-ltb (length s) 7 long
 
-    pub unmarked : marked s ≡ false → replyOf (Refused Mark) ≡ given openingRows s posts
-    unmarked m = sym (given-first s posts (shortRow ∷ []) markRow (versionRow ∷ []) (not-short, tt) (ap not m))
+    pub no-mark : marked s ≡ false → replyOf (Refused Mark) ≡ given openingRows s posts
+    no-mark m = sym (given-first s posts (shortRow ∷ []) markRow (versionRow ∷ []) (not-short, tt) (ap not m))
 
     module _ (mark : marked s ≡ true) where
       pub other-version : (version s ≡ 1 → ⊥) → replyOf (Refused Version) ≡ given openingRows s posts
       other-version v =
           sym (given-first s posts (shortRow ∷ markRow ∷ []) versionRow [] (not-short, (ap not mark, tt)) (ap not (ne-eqb (version s) 1 v)))
 
-      pub opening-fine : version s ≡ 1 → NoneApplies openingRows s
-      opening-fine one = (not-short, (ap not mark, (ap not (eq-eqb (version s) 1 one), tt)))
+      pub opening-passes : version s ≡ 1 → NoneApplies openingRows s
+      opening-passes one = (not-short, (ap not mark, (ap not (eq-eqb (version s) 1 one), tt)))
 
   -- ---- the size
 
@@ -81,11 +80,11 @@ module _ (s : List ℕ) where
       pub other-length : (length s ≡ size (posts s) → ⊥) → replyOf (Refused Length) ≡ given sizeRows s posts
       other-length h = sym (given-first s posts (postsRow ∷ []) lengthRow [] (in-range, tt) (ap not (ne-eqb (length s) (size (posts s)) h)))
 
-      pub size-fine : length s ≡ size (posts s) → NoneApplies sizeRows s
-      size-fine sized = (in-range, (ap not (eq-eqb (length s) (size (posts s)) sized), tt))
+      pub size-passes : length s ≡ size (posts s) → NoneApplies sizeRows s
+      size-passes sized = (in-range, (ap not (eq-eqb (length s) (size (posts s)) sized), tt))
 
-  pub headed : (n : ℕ) → n ≡ posts s → NoneApplies sizeRows s → Headed s n
-  headed n is h =
+  pub size-headed : (n : ℕ) → n ≡ posts s → NoneApplies sizeRows s → Headed s n
+  size-headed n is h =
       let range = neither (ltb (posts s) 3) (ltb limit (posts s)) (h .0) in
       let all : lengthRow .when s ≡ false = search in
       let sized = eqb-true (length s) (size (posts s)) (not-false (eqb (length s) (size (posts s))) all) in
@@ -101,8 +100,8 @@ module _ (s : List ℕ) where
   pub other-sum : (statedSum s ≡ earlierSum s → ⊥) → replyOf (Refused Sum) ≡ given sumRows s posts
   other-sum h = sym (given-first s posts [] sumRow [] tt (ap not (ne-eqb (statedSum s) (earlierSum s) h)))
 
-  pub sum-fine : statedSum s ≡ earlierSum s → NoneApplies sumRows s
-  sum-fine h = (ap not (eq-eqb (statedSum s) (earlierSum s) h), tt)
+  pub sum-passes : statedSum s ≡ earlierSum s → NoneApplies sumRows s
+  sum-passes h = (ap not (eq-eqb (statedSum s) (earlierSum s) h), tt)
 
   -- ---- where all pass, the mark, version, size and sum are right
 
@@ -125,13 +124,13 @@ module _ (s : List ℕ) where
       }
 
   pub framed-headed : (n : ℕ) → n ≡ posts s → NoneApplies (headerRows ++ sumRows) s → Headed s n
-  framed-headed n is h = headed n is (none-left sizeRows sumRows s (none-right openingRows (sizeRows ++ sumRows) s h))
+  framed-headed n is h = size-headed n is (none-left sizeRows sumRows s (none-right openingRows (sizeRows ++ sumRows) s h))
 
   -- and the other way round
   pub framed-none : Framed s → NoneApplies (headerRows ++ sumRows) s
   framed-none F =
       let long : 7 ≤ length s = omega (arith, F .size-right, F .posts-least) in
-      let a : NoneApplies openingRows s = opening-fine long (is-marked s (F .mark-right)) (F .version-right) in
-      let b : NoneApplies sizeRows s = size-fine (F .posts-least) (F .posts-most) (F .size-right) in
-      let c : NoneApplies sumRows s = sum-fine (F .sum-right) in
+      let a : NoneApplies openingRows s = opening-passes long (is-marked s (F .mark-right)) (F .version-right) in
+      let b : NoneApplies sizeRows s = size-passes (F .posts-least) (F .posts-most) (F .size-right) in
+      let c : NoneApplies sumRows s = sum-passes (F .sum-right) in
       search

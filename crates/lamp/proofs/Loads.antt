@@ -1,7 +1,7 @@
 -- The order's and the degrees' rows, by what the code found; and the arrays that then hold the block.
 use Prim.Native.Nat.{ℕ, _+_, _≤_, _<_}
 use mathlib.Core.Path.{_≡_, refl, sym, ap, _∙_, subst⁻¹}
-use mathlib.Core.Bool.{true, false}
+use mathlib.Core.Bool.{false}
 use mathlib.Core.List.{List, []}
 use native.Mathlib.Omega.{arith}
 use lib.Dec.{eqb}
@@ -40,8 +40,8 @@ module _ (s : List ℕ) where
         ap (λ (z : ℕ). replyOf (Refused (Order z))) k-is
         ∙ sym (given-first s posts [] entryRow [] tt (found (entryFault s) 1 (posts s) k k-is (omega (arith, is))))
 
-    pub entries-fine : n < k → NoneApplies orderRows s
-    entries-fine h = (not-found (entryFault s) 1 (posts s) k k-is (omega (arith, is)), tt)
+    pub entries-pass : n < k → NoneApplies orderRows s
+    entries-pass h = (not-found (entryFault s) 1 (posts s) k k-is (omega (arith, is)), tt)
 
   pub entered : NoneApplies orderRows s → Entered s
   entered h k from to = some-none (entryFault s) 1 (posts s) (h .0) k from (omega arith)
@@ -73,8 +73,8 @@ module _ (s : List ℕ) where
           let other = ne-eqb (sumOf (degrees s)) (entries (posts s)) (λ q. h (q ∙ ap entries (sym is))) in
           ap (λ (z : ℕ). replyOf (Refused (Degrees z))) name-is ∙ sym (given-first s posts [] degreeRow [] tt (rw (none, other) refl))
 
-      pub degrees-fine : sumOf (degrees s) ≡ entries n → NoneApplies degreeRows s
-      degrees-fine h = (rw (none, eq-eqb (sumOf (degrees s)) (entries (posts s)) (h ∙ ap entries is)) refl, tt)
+      pub degrees-pass : sumOf (degrees s) ≡ entries n → NoneApplies degreeRows s
+      degrees-pass h = (rw (none, eq-eqb (sumOf (degrees s)) (entries (posts s)) (h ∙ ap entries is)) refl, tt)
 
   pub totalled : NoneApplies degreeRows s → sumOf (degrees s) ≡ entries (posts s)
   totalled h =

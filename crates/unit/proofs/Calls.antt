@@ -1,7 +1,6 @@
 -- What sheet and post reply, by what check answered and what the rows after it gave; and the buffer after a sheet call.
 use Prim.Native.Nat.{ℕ, _+_, _*_, _≤_, _<_}
 use mathlib.Core.Path.{_≡_, refl, sym, ap, _∙_, subst, subst⁻¹}
-use mathlib.Core.Bool.{false}
 use mathlib.Core.List.{List, [], _∷_, _++_}
 use native.Mathlib.Omega.{arith}
 use lib.Dec.{ltb}
@@ -28,13 +27,12 @@ use Rattle.lamp.specs.declared.Refusal.the-variants.{Room, Name}
 use Rattle.lamp.specs.declared.Answer.{Answer}
 use Rattle.lamp.specs.declared.Answer.the-variants.{Refused}
 use Rattle.lamp.proofs.Given.{given-first, given-past, given-none, refused-any, none-both}
-use Rattle.lamp.proofs.Steps.{refuses}
+use Rattle.lamp.proofs.Steps.{stops}
 use Rattle.lamp.proofs.Loads.{trimmed}
 use Rattle.lamp.proofs.Accepts.{none-passes, accepted-none}
 use Rattle.unit.specs.declared.Ask.{Ask}
-use Rattle.unit.specs.declared.Served.{Served}
 use Rattle.unit.specs.Replies.{stageAt, sheetReply, bufferFor, bufferAfter, postReply}
-use Rattle.unit.specs.Asked.{ownRow, furtherRows, Fits, Tells, Serves}
+use Rattle.unit.specs.Asked.{furtherRows, Within, Tells, Serves}
 
 -- ---- the rows after check's, by what the code compared
 
@@ -53,24 +51,24 @@ module _ (s : List ℕ) (k : ℕ) where
   pub no-room : (room : ℕ) → room < 2 * k → replyOf (Refused Room) ≡ given (roomRow k room ∷ []) s posts
   no-room room h = sym (given-first s posts [] (roomRow k room) [] tt (lt-ltb room (2 * k) h))
 
-  pub room-fine : (room : ℕ) → 2 * k ≤ room → NoneApplies (roomRow k room ∷ []) s
-  room-fine room h = (le-ltb room (2 * k) h, tt)
+  pub room-passes : (room : ℕ) → 2 * k ≤ room → NoneApplies (roomRow k room ∷ []) s
+  room-passes room h = (le-ltb room (2 * k) h, tt)
 
 pub no-name : (s : List ℕ) (u : ℕ) → posts s ≤ u → replyOf (Refused Name) ≡ given (nameRow u ∷ []) s posts
 no-name s u h = sym (given-first s posts [] (nameRow u) [] tt (le-leb (posts s) u h))
 
-pub name-fine : (s : List ℕ) (u : ℕ) → u < posts s → NoneApplies (nameRow u ∷ []) s
-name-fine s u h = (lt-leb (posts s) u h, tt)
+pub name-passes : (s : List ℕ) (u : ℕ) → u < posts s → NoneApplies (nameRow u ∷ []) s
+name-passes s u h = (lt-leb (posts s) u h, tt)
 
 -- where none applies, the stage and what is asked of it fit
-pub stage-fits : (ask : Ask) (s : List ℕ) (k room : ℕ) → NoneApplies (furtherRows ask k room) s → (3 ≤ k) × (k ≤ posts s)
-stage-fits ask s k room h =
+pub stage-within : (ask : Ask) (s : List ℕ) (k room : ℕ) → NoneApplies (furtherRows ask k room) s → (3 ≤ k) × (k ≤ posts s)
+stage-within ask s k room h =
     let in-range = neither (ltb k 3) (ltb (posts s) k) (h .0) in
     (ltb-false k 3 (in-range .0), ltb-false (posts s) k (in-range .1))
 
-pub fits : (ask : Ask) (s : List ℕ) (k room n : ℕ) → n ≡ posts s → NoneApplies (furtherRows ask k room) s → Fits ask k n room
-fits Ask.Sheet s k room n is h = ltb-false room (2 * k) (search)
-fits (Ask.Post u) s k room n is h = let low = leb-false (posts s) u (search) in omega (arith, low, is)
+pub within : (ask : Ask) (s : List ℕ) (k room n : ℕ) → n ≡ posts s → NoneApplies (furtherRows ask k room) s → Within ask k n room
+within Ask.Sheet s k room n is h = ltb-false room (2 * k) (search)
+within (Ask.Post u) s k room n is h = let low = leb-false (posts s) u (search) in omega (arith, low, is)
 
 -- ---- the replies
 
@@ -98,7 +96,7 @@ module _ (s : List ℕ) (k : ℕ) (b : List ℕ) where
     pub check-refuses : replyOf a ≡ checkReply s → Serves ask k s b (record { answer = a; found = w }) b
     unfolding checkReply
     check-refuses e =
-        let q = sym (ap replyOf told) ∙ refuses s (checkRows s) a e (furtherRows ask k (length b)) f told in
+        let q = sym (ap replyOf told) ∙ stops s (checkRows s) a e (furtherRows ask k (length b)) f told in
         subst⁻¹ (λ (z : Answer). Serves ask k s b (record { answer = z; found = w }) b) told (refused-serves ask f w q)
 
     -- check accepts, and a row after it applies
@@ -137,15 +135,15 @@ module _ (s : List ℕ) (k : ℕ) (b : List ℕ) where
 
 module _ (ask : Ask) (k : ℕ) where
   module _ (e : ask ≡ Ask.Sheet) where
-    pub fits-sheet : (n room : ℕ) → Fits ask k n room → 2 * k ≤ room
-    fits-sheet n room h = subst (λ (a : Ask). Fits a k n room) e h
+    pub within-sheet : (n room : ℕ) → Within ask k n room → 2 * k ≤ room
+    within-sheet n room h = subst (λ (a : Ask). Within a k n room) e h
 
     pub tells-sheet : (t : Stage) (b : List ℕ) (r : Record) (after : List ℕ) → after ≡ entriesOf t ++ drop (2 * k) b → Tells ask k t b r after
     tells-sheet t b r after h = subst⁻¹ (λ (a : Ask). Tells a k t b r after) e h
 
   module _ (u : ℕ) (e : ask ≡ Ask.Post u) where
-    pub fits-post : (n room : ℕ) → Fits ask k n room → u < n
-    fits-post n room h = subst (λ (a : Ask). Fits a k n room) e h
+    pub within-post : (n room : ℕ) → Within ask k n room → u < n
+    within-post n room h = subst (λ (a : Ask). Within a k n room) e h
 
     pub tells-post : (t : Stage) (b : List ℕ) (r : Record) (after : List ℕ) → r ≡ recordOf t u → Tells ask k t b r after
     tells-post t b r after h = subst⁻¹ (λ (a : Ask). Tells a k t b r after) e h

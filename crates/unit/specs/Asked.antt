@@ -23,9 +23,9 @@ abbrev pub furtherRows : Ask → ℕ → ℕ → List Row
 furtherRows ask k room = stageRow k ∷ ownRow ask k room ∷ []
 
 -- what passing them leaves to the drawing, for n posts
-abbrev pub Fits : Ask → ℕ → ℕ → ℕ → Type 0
-Fits Ask.Sheet k n room = 2 * k ≤ room
-Fits (Ask.Post u) k n room = u < n
+abbrev pub Within : Ask → ℕ → ℕ → ℕ → Type 0
+Within Ask.Sheet k n room = 2 * k ≤ room
+Within (Ask.Post u) k n room = u < n
 
 -- what is told of a stage: the buffer b becomes its sheet, or the record is a post's
 abbrev pub Tells : Ask → ℕ → Stage → List ℕ → Record → List ℕ → Type 0
@@ -33,11 +33,11 @@ Tells Ask.Sheet k t b r after = after ≡ entriesOf t ++ drop (2 * k) b
 Tells (Ask.Post u) k t b r after = r ≡ recordOf t u
 
 -- the reply with a record: the refusal, or the record
-abbrev pub recorded : Answer → Record → Reply Record
-recorded (Answer.Accepted n) r = accepted r
-recorded (Answer.Refused f) r = refused (numberOf f) (placeOf f)
+abbrev pub recordReply : Answer → Record → Reply Record
+recordReply (Answer.Accepted n) r = accepted r
+recordReply (Answer.Refused f) r = refused (numberOf f) (placeOf f)
 
 -- the whole service
 abbrev pub Serves : Ask → ℕ → List ℕ → List ℕ → Served → List ℕ → Type 0
 Serves Ask.Sheet k s b r after = (replyOf (r .answer) ≡ sheetReply s k b) × (after ≡ bufferAfter s k b)
-Serves (Ask.Post u) k s b r after = recorded (r .answer) (r .found) ≡ postReply s k u
+Serves (Ask.Post u) k s b r after = recordReply (r .answer) (r .found) ≡ postReply s k u

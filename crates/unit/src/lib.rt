@@ -12,7 +12,7 @@ ghost use Rattle.lamp.specs.Lamp.{roomRow, nameRow};
 ghost use Rattle.lamp.specs.Given.{accepted, replyOf, given, checkReply};
 ghost use Rattle.lamp.specs.Loaded.{Wide, Checked};
 ghost use Rattle.unit.specs.Replies.{sheetReply, bufferAfter, postReply, postedOf};
-ghost use Rattle.unit.specs.Asked.{furtherRows, Fits, Tells, Serves};
+ghost use Rattle.unit.specs.Asked.{furtherRows, Within, Tells, Serves};
 use block::Block;
 use lamp::Answer;
 use lamp::Refusal;
@@ -122,7 +122,7 @@ fn drawn(
     buffer: &mut [u16],
 ) -> Record
     requires { ⌜ Fitted (now at) (now ents) (now vs) (now rank) × (3 ≤ k) × (k ≤ length (now vs))
-        × Fits ask k (length (held (now at) (now ents))) (length (now buffer)) ⌝ }
+        × Within ask k (length (held (now at) (now ents))) (length (now buffer)) ⌝ }
     ensures { λ r. ⌜ Tells ask k (stage (held (now (at .entry)) (now (ents .entry))) (take k (now (vs .entry))))
         (now (buffer .entry)) r (now (buffer .exit)) ⌝ }
 {

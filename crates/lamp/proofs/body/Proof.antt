@@ -1,11 +1,6 @@
 use borrow.Author.Needs.{needs}
 use Rattle.lamp.proofs.body.Statement.{statement}
 use Rattle.lamp.proofs.body.Tie as tie
-use Rattle.lamp.proofs.body.Reads as reads
-use Rattle.lamp.proofs.body.Lts as lts
-use Rattle.lamp.proofs.load.Reads as load-reads
-use Rattle.lamp.proofs.loaded.Reads as loaded-reads
-use native.Mathlib.Omega.{arith}
 use Prim.Native.Nat.{ℕ}
 use mathlib.Core.Path.{_≡_, sym, ap, _∙_}
 use Rattle.block.specs.Block.{posts}
@@ -13,7 +8,7 @@ use Rattle.lamp.specs.Given.{accepted, replyOf}
 use Rattle.lamp.specs.Lamp.{orderRows, degreeRows}
 use Rattle.lamp.specs.Loaded.{loadRows, loadedRows}
 use Rattle.lamp.proofs.Given.{none-left, accepted-is}
-use Rattle.lamp.proofs.Steps.{passed, refuses, goes-on, never}
+use Rattle.lamp.proofs.Steps.{none-applied, stops, goes-on, never}
 use Rattle.lamp.proofs.Loads.{entered, checked}
 
 load-requires : tie.Need-load-requires
@@ -42,7 +37,7 @@ returns c =
     let back = c .before .before .before .before .before in
     let asked = back .before .before .before .before .before .load in
     let told = c .enum-told2 .given .1 in
-    (refuses _ loadRows (asked .result) (asked .ensures .0) _ _ told, λ n. never _ _ n told)
+    (stops _ loadRows (asked .result) (asked .ensures .0) _ _ told, λ n. never _ _ n told)
 
 loaded-requires : tie.Need-loaded-requires
 loaded-requires c κs =
@@ -54,7 +49,7 @@ loaded-requires c κs =
     let asked = loading .load in
     let s = entry .args .s .now in
     let told = past .enum-told .given .1 in
-    let none = passed s loadRows (asked .result) (asked .ensures .0) _ told in
+    let none = none-applied s loadRows (asked .result) (asked .ensures .0) _ told in
     let names = entered s (none-left orderRows degreeRows s none) in
     (entry .pre .0, record { names = search needs; places = search needs; all = search needs }, asked .ensures .1 _ (ap replyOf told), names, search needs)
 

@@ -1,17 +1,11 @@
 use borrow.Author.Needs.{needs}
 use Rattle.lamp.proofs.check_into.Statement.{statement}
 use Rattle.lamp.proofs.check_into.Tie as tie
-use Rattle.lamp.proofs.check_into.Reads as reads
-use Rattle.lamp.proofs.check_into.Lts as lts
-use Rattle.lamp.proofs.body.Reads as body-reads
-use Rattle.lamp.proofs.header.header.Reads as header-reads
-use Rattle.words.proofs.number.Reads as number-reads
-use native.Mathlib.Omega.{arith}
-use mathlib.Core.Path.{sym, ap, _∙_}
+use mathlib.Core.Path.{_∙_}
 use mathlib.Core.List.{_++_}
 use Rattle.lamp.specs.Lamp.{headerRows, sumRows}
 use Rattle.lamp.specs.Loaded.{loadRows, loadedRows}
-use Rattle.lamp.proofs.Steps.{counts, passed, refuses, goes-on, never}
+use Rattle.lamp.proofs.Steps.{counts, none-applied, stops, goes-on, never}
 use Rattle.lamp.proofs.Heads.{framed-headed}
 use Rattle.lamp.proofs.Boards.{whole-table}
 
@@ -31,7 +25,7 @@ returns c =
     let entry = heading .before .before .before .before .before .before .before in
     let s = entry .args .s .now in
     let told = c .enum-told .given .1 in
-    (refuses s (headerRows ++ sumRows) (asked .result) (asked .ensures) (loadRows ++ loadedRows s) _ told ∙ whole-table s, λ n. never _ _ n told)
+    (stops s (headerRows ++ sumRows) (asked .result) (asked .ensures) (loadRows ++ loadedRows s) _ told ∙ whole-table s, λ n. never _ _ n told)
 
 number-requires : tie.Need-number-requires
 number-requires c κs = search needs
@@ -44,7 +38,7 @@ body-requires c κs =
     let rows = headerRows ++ sumRows in
     let told = known .h .given .1 in
     let is = counting .number .ensures .0 ∙ counts _ rows (asked .result) (asked .ensures) _ told in
-    let H = framed-headed _ _ is (passed _ rows (asked .result) (asked .ensures) _ told) in
+    let H = framed-headed _ _ is (none-applied _ rows (asked .result) (asked .ensures) _ told) in
     (H, record { names = search needs; places = search needs; all = search needs }, search needs, search needs)
 
 same-length : tie.Need-same-length

@@ -1,20 +1,14 @@
 use borrow.Author.Needs.{needs}
 use Rattle.lamp.proofs.degrees_in.Statement.{statement}
 use Rattle.lamp.proofs.degrees_in.Tie as tie
-use Rattle.lamp.proofs.degrees_in.Reads as reads
-use Rattle.lamp.proofs.degrees_in.Lts as lts
-use Rattle.block.proofs.Block.entries.Reads as entries-reads
-use Rattle.block.proofs.read_degrees.Reads as read-degrees-reads
-use Rattle.block.proofs.total.Reads as total-reads
 use native.Mathlib.Omega.{arith}
-use mathlib.Core.Path.{_≡_, sym, ap, _∙_}
+use mathlib.Core.Path.{sym, ap, _∙_}
 use Rattle.words.specs.Numbers.{sumOf}
 use Rattle.block.specs.Layout.{entries}
-use Rattle.block.specs.Block.{degrees}
 use Rattle.rings.proofs.Read.{degrees-count}
 use Rattle.lamp.specs.Lamp.{degreeRows}
-use Rattle.lamp.proofs.Steps.{passes}
-use Rattle.lamp.proofs.Loads.{degree-bad, total-bad, degrees-fine}
+use Rattle.lamp.proofs.Steps.{none-stops}
+use Rattle.lamp.proofs.Loads.{degree-bad, total-bad, degrees-pass}
 
 read-degrees-requires : tie.Need-read-degrees-requires
 read-degrees-requires c κs = search needs
@@ -76,8 +70,8 @@ returns-3 c =
     let read = counted .before .before .before .before .before in
     let entry = read .before .before .before .before in
     let total = sym (counted .total .ensures ∙ ap sumOf (read .read-degrees .ensures .0)) ∙ c .if2 .left ∙ c .before .entries .ensures in
-    let fine = degrees-fine _ _ (entry .pre .0 .is) _ (read .read-degrees .ensures .1) (counted .before .before .if1 .left) total in
-    (passes _ degreeRows _ (entry .pre .0 .is) fine, read .read-degrees .ensures .0)
+    let fine = degrees-pass _ _ (entry .pre .0 .is) _ (read .read-degrees .ensures .1) (counted .before .before .if1 .left) total in
+    (none-stops _ degreeRows _ (entry .pre .0 .is) fine, read .read-degrees .ensures .0)
 
 pub degrees-in-spec : {M : Type 1} → statement M
 degrees-in-spec =

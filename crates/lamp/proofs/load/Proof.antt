@@ -1,18 +1,13 @@
 use borrow.Author.Needs.{needs}
 use Rattle.lamp.proofs.load.Statement.{statement}
 use Rattle.lamp.proofs.load.Tie as tie
-use Rattle.lamp.proofs.load.Reads as reads
-use Rattle.lamp.proofs.load.Lts as lts
-use Rattle.lamp.proofs.degrees_in.Reads as degrees-in-reads
-use Rattle.lamp.proofs.order_in.Reads as order-in-reads
-use Rattle.rings.proofs.read_lists.Reads as read-lists-reads
 use native.Mathlib.Omega.{arith}
-use mathlib.Core.Path.{_≡_, sym, ap, _∙_}
+use mathlib.Core.Path.{sym, ap, _∙_}
 use Rattle.words.specs.Numbers.{sumOf}
 use Rattle.block.specs.Layout.{entries}
 use Rattle.rings.proofs.Read.{degrees-count}
 use Rattle.lamp.specs.Lamp.{orderRows, degreeRows}
-use Rattle.lamp.proofs.Steps.{passed, refuses, goes-on, never}
+use Rattle.lamp.proofs.Steps.{none-applied, stops, goes-on, never}
 use Rattle.lamp.proofs.Loads.{totalled}
 
 order-in-requires : tie.Need-order-in-requires
@@ -31,7 +26,7 @@ returns : tie.Need-returns
 returns c =
     let ordered = c .before .before .before .before .order-in in
     let told = c .enum-told2 .given .1 in
-    (refuses _ orderRows (ordered .result) (ordered .ensures .0) degreeRows _ told, λ n. never _ _ n told)
+    (stops _ orderRows (ordered .result) (ordered .ensures .0) degreeRows _ told, λ n. never _ _ n told)
 
 degrees-in-requires : tie.Need-degrees-in-requires
 degrees-in-requires c κs = search needs
@@ -54,7 +49,7 @@ returns-2 c =
     let past = c .before .before .before .before .before .before in
     let ordered = past .before .before .before .before .order-in in
     let told = c .enum-told4 .given .1 in
-    let stop = refuses _ degreeRows (counted .result) (counted .ensures .0) _ _ told in
+    let stop = stops _ degreeRows (counted .result) (counted .ensures .0) _ _ told in
     let on = goes-on _ orderRows (ordered .result) (ordered .ensures .0) degreeRows _ (past .enum-told .given .1) in
     (stop ∙ on, λ n. never _ _ n told)
 
@@ -76,7 +71,7 @@ read-lists-requires c κs =
     let entry = ordering .before .before .before .before .before .before .before in
     let H = entry .pre .0 in
     let counted = counting .degrees-in in
-    let none = passed _ degreeRows (counted .result) (counted .ensures .0) _ (past .enum-told3 .given .1) in
+    let none = none-applied _ degreeRows (counted .result) (counted .ensures .0) _ (past .enum-told3 .given .1) in
     let total = ap sumOf (counted .ensures .1) ∙ totalled _ none ∙ ap entries (sym (H .is)) in
     (H, counted .ensures .1, total, omega (arith, entry .pre .1 .places), omega (arith, entry .pre .1 .all))
 

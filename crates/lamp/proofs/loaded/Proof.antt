@@ -1,10 +1,6 @@
 use borrow.Author.Needs.{needs}
 use Rattle.lamp.proofs.loaded.Statement.{statement}
 use Rattle.lamp.proofs.loaded.Tie as tie
-use Rattle.lamp.proofs.loaded.Reads as reads
-use Rattle.lamp.proofs.loaded.Lts as lts
-use Rattle.block.proofs.Block.entries.Reads as entries-reads
-use Rattle.lamp.proofs.order_and_board.Reads as order-and-board-reads
 use native.Mathlib.Omega.{arith}
 use Prim.Native.Nat.{ℕ, _+_}
 use mathlib.Core.Path.{sym, subst⁻¹}

@@ -1,14 +1,9 @@
 use borrow.Author.Needs.{needs}
 use Rattle.lamp.proofs.order_and_board.Statement.{statement}
 use Rattle.lamp.proofs.order_and_board.Tie as tie
-use Rattle.lamp.proofs.order_and_board.Reads as reads
-use Rattle.lamp.proofs.order_and_board.Lts as lts
-use Rattle.lamp.proofs.board.board.Reads as board-reads
-use Rattle.lamp.proofs.board.fitting.Reads as fitting-reads
-use Rattle.order.proofs.ranks.Reads as ranks-reads
 use native.Mathlib.Omega.{arith}
 use Prim.Native.Nat.{ℕ}
-use mathlib.Core.Path.{sym, ap, _∙_, subst}
+use mathlib.Core.Path.{ap, _∙_, subst}
 use mathlib.Core.List.{List, _++_}
 use Rattle.block.specs.Block.{posts}
 use Rattle.order.specs.Ranked.{Ranked}
@@ -16,7 +11,7 @@ use Rattle.lamp.specs.Lamp.{ringRows, triangleRows, outerRows}
 use Rattle.lamp.specs.Given.{given}
 use Rattle.lamp.specs.Loaded.{boardRows, rowsFrom}
 use Rattle.lamp.proofs.Given.{none-left}
-use Rattle.lamp.proofs.Steps.{passed, refuses, goes-on, never}
+use Rattle.lamp.proofs.Steps.{none-applied, stops, goes-on, never}
 use Rattle.lamp.proofs.Loads.{entered-in}
 use Rattle.lamp.proofs.Boards.{ringed}
 
@@ -33,7 +28,7 @@ returns : tie.Need-returns
 returns c =
     let asked = c .before .before .board in
     let told = c .enum-told2 .given .1 in
-    (refuses _ boardRows (asked .result) (asked .ensures) _ _ told, λ n. never _ _ n told)
+    (stops _ boardRows (asked .result) (asked .ensures) _ _ told, λ n. never _ _ n told)
 
 ranks-requires : tie.Need-ranks-requires
 ranks-requires c κs =
@@ -49,7 +44,7 @@ fitting-requires c κs =
     let asking = past .before .before in
     let asked = asking .board in
     let entry = asking .before .before .before .before .before .before in
-    let none = passed _ boardRows (asked .result) (asked .ensures) _ (past .enum-told .given .1) in
+    let none = none-applied _ boardRows (asked .result) (asked .ensures) _ (past .enum-told .given .1) in
     let fine = ringed _ (entry .pre .2) (none-left ringRows (triangleRows ++ outerRows) _ none) in
     (entry .pre .0, c .before .before .before .ranks .ensures, fine)
 

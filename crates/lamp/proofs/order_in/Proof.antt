@@ -1,13 +1,9 @@
 use borrow.Author.Needs.{needs}
 use Rattle.lamp.proofs.order_in.Statement.{statement}
 use Rattle.lamp.proofs.order_in.Tie as tie
-use Rattle.lamp.proofs.order_in.Reads as reads
-use Rattle.lamp.proofs.order_in.Lts as lts
-use Rattle.block.proofs.read_order.Reads as read-order-reads
-use native.Mathlib.Omega.{arith}
 use Rattle.lamp.specs.Lamp.{orderRows}
-use Rattle.lamp.proofs.Steps.{passes}
-use Rattle.lamp.proofs.Loads.{entry-bad, entries-fine}
+use Rattle.lamp.proofs.Steps.{none-stops}
+use Rattle.lamp.proofs.Loads.{entry-bad, entries-pass}
 
 read-order-requires : tie.Need-read-order-requires
 read-order-requires c κs = search needs
@@ -34,7 +30,7 @@ returns-2 : tie.Need-returns-2
 returns-2 c =
     let read = c .before .before .before in
     let is = read .before .before .before .before .pre .0 .is in
-    (passes _ orderRows _ is (entries-fine _ _ is _ (read .read-order .ensures .1) (c .if1 .left)), read .read-order .ensures .0)
+    (none-stops _ orderRows _ is (entries-pass _ _ is _ (read .read-order .ensures .1) (c .if1 .left)), read .read-order .ensures .0)
 
 pub order-in-spec : {M : Type 1} → statement M
 order-in-spec =

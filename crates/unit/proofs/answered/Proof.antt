@@ -1,21 +1,15 @@
 use borrow.Author.Needs.{needs}
 use Rattle.unit.proofs.answered.Statement.{statement}
 use Rattle.unit.proofs.answered.Tie as tie
-use Rattle.unit.proofs.answered.Reads as reads
-use Rattle.unit.proofs.answered.Lts as lts
-use Rattle.block.proofs.Block.entries.Reads as entries-reads
-use Rattle.unit.proofs.drawn.Reads as drawn-reads
-use Rattle.unit.proofs.further.Reads as further-reads
-use Rattle.unit.proofs.no_record.Reads as no-record-reads
 use native.Mathlib.Omega.{arith}
 use Prim.Native.Nat.{_<_}
 use mathlib.Core.Path.{sym, _∙_}
-use lib.ListN.{length, take}
+use lib.ListN.{length}
 use Rattle.block.specs.Layout.{limit}
 use lib.Seq.{length-take-le}
 use Rattle.unit.specs.Asked.{furtherRows}
-use Rattle.lamp.proofs.Steps.{passed}
-use Rattle.unit.proofs.Calls.{stage-fits, fits, row-refuses, serves, length-is, many-is, to-engine, stage-is}
+use Rattle.lamp.proofs.Steps.{none-applied}
+use Rattle.unit.proofs.Calls.{stage-within, within, row-refuses, serves, length-is, many-is, to-engine, stage-is}
 
 further-requires : tie.Need-further-requires
 further-requires c κs = search needs
@@ -63,15 +57,15 @@ drawn-requires c κs =
     let b = entry .args .buffer .now in
     let ask = entry .args .ask in
     let asked = asking .further in
-    let none = passed s (furtherRows ask k (length b)) (asked .result) (asked .ensures) _ (past .enum-told .given .1) in
-    let in-range = stage-fits ask s k (length b) none in
+    let none = none-applied s (furtherRows ask k (length b)) (asked .result) (asked .ensures) _ (past .enum-told .given .1) in
+    let in-range = stage-within ask s k (length b) none in
     let R = entry .pre .1 in
     let room : limit < length (entry .args .at .now) = omega (arith, entry .pre .2 .places) in
     let counted = c .before .before .before .before .entries in
     let is = length-is s _ (entry .pre .0) _ _ _ _ R room _ (counted .ensures) in
     let E = to-engine s _ (entry .pre .0) _ _ _ _ R room _ (counted .ensures) in
     let many = many-is s _ (entry .pre .0) _ _ _ _ R room _ (counted .ensures) in
-    (E, in-range .0, omega (arith, in-range .1, is, R .headed .is), fits ask s k (length b) _ (many ∙ R .headed .is) none)
+    (E, in-range .0, omega (arith, in-range .1, is, R .headed .is), within ask s k (length b) _ (many ∙ R .headed .is) none)
 
 mul-t15 : tie.Need-mul-t15
 mul-t15 c =
@@ -84,8 +78,8 @@ mul-t15 c =
     let b = entry .args .buffer .now in
     let ask = entry .args .ask in
     let asked = asking .further in
-    let none = passed s (furtherRows ask k (length b)) (asked .result) (asked .ensures) _ (past .enum-told .given .1) in
-    let in-range = stage-fits ask s k (length b) none in
+    let none = none-applied s (furtherRows ask k (length b)) (asked .result) (asked .ensures) _ (past .enum-told .given .1) in
+    let in-range = stage-within ask s k (length b) none in
     omega (arith, in-range .1, entry .pre .1 .headed .is, entry .pre .1 .headed .most)
 
 cast-t25 : tie.Need-cast-t25
@@ -99,8 +93,8 @@ cast-t25 c =
     let b = entry .args .buffer .now in
     let ask = entry .args .ask in
     let asked = asking .further in
-    let none = passed s (furtherRows ask k (length b)) (asked .result) (asked .ensures) _ (past .enum-told .given .1) in
-    let in-range = stage-fits ask s k (length b) none in
+    let none = none-applied s (furtherRows ask k (length b)) (asked .result) (asked .ensures) _ (past .enum-told .given .1) in
+    let in-range = stage-within ask s k (length b) none in
     omega (arith, in-range .1, entry .pre .1 .headed .is, entry .pre .1 .headed .most)
 
 same-length : tie.Need-same-length
@@ -117,8 +111,8 @@ returns-2 c =
     let b = entry .args .buffer .now in
     let ask = entry .args .ask in
     let asked = asking .further in
-    let none = passed s (furtherRows ask k (length b)) (asked .result) (asked .ensures) _ (past .enum-told .given .1) in
-    let in-range = stage-fits ask s k (length b) none in
+    let none = none-applied s (furtherRows ask k (length b)) (asked .result) (asked .ensures) _ (past .enum-told .given .1) in
+    let in-range = stage-within ask s k (length b) none in
     let R = entry .pre .1 in
     let room : limit < length (entry .args .at .now) = omega (arith, entry .pre .2 .places) in
     let counted = done .before .before .before .before .before .entries in

@@ -1,14 +1,8 @@
 use borrow.Author.Needs.{needs}
 use Rattle.unit.proofs.drawn.Statement.{statement}
 use Rattle.unit.proofs.drawn.Tie as tie
-use Rattle.unit.proofs.drawn.Reads as reads
-use Rattle.unit.proofs.drawn.Lts as lts
-use Rattle.engine.proofs.post_at.Reads as post-at-reads
-use Rattle.engine.proofs.sheet_at.Reads as sheet-at-reads
-use Rattle.unit.proofs.no_names.Reads as no-names-reads
-use Rattle.unit.proofs.no_record.Reads as no-record-reads
 use native.Mathlib.Omega.{arith}
-use Rattle.unit.proofs.Calls.{fits-sheet, tells-sheet, fits-post, tells-post}
+use Rattle.unit.proofs.Calls.{within-sheet, tells-sheet, within-post, tells-post}
 
 no-names-requires : tie.Need-no-names-requires
 no-names-requires c κs = search needs
@@ -54,8 +48,10 @@ sheet-at-requires c κs =
     let asked = c .before .before .before .before .before .before .before in
     let made = asked .before .before .before .before .before .before .before in
     let entry = made .before .before .before .before .before .before in
-    let fit = fits-sheet (entry .args .ask) (entry .args .k) (asked .enum-told .given .1) _ _ (entry .pre .3) in
-    (entry .pre .0, entry .pre .1, entry .pre .2, search needs, search needs, omega (arith, fit))
+    let fit = within-sheet (entry .args .ask) (entry .args .k) (asked .enum-told .given .1) _ _ (entry .pre .3) in
+    let least = entry .pre .1 in
+    let most = entry .pre .2 in
+    (entry .pre .0, omega (arith, least), omega (arith, least, most), search needs, search needs, omega (arith, least, fit))
 
 no-record-requires : tie.Need-no-record-requires
 no-record-requires c κs = search needs
@@ -68,7 +64,7 @@ cast-post-at c =
     let asked = c .before in
     let made = asked .before .before .before .before .before .before .before in
     let entry = made .before .before .before .before .before .before in
-    let fit = fits-post (entry .args .ask) (entry .args .k) _ (asked .ask .given .1) _ _ (entry .pre .3) in
+    let fit = within-post (entry .args .ask) (entry .args .k) _ (asked .ask .given .1) _ _ (entry .pre .3) in
     omega (arith, fit, entry .pre .0 .most)
 
 slice-aggregate-post-at : tie.Need-slice-aggregate-post-at
@@ -94,7 +90,7 @@ post-at-requires c κs =
     let asked = c .before .before .before .before .before .before .before in
     let made = asked .before .before .before .before .before .before .before in
     let entry = made .before .before .before .before .before .before in
-    let fit = fits-post (entry .args .ask) (entry .args .k) _ (asked .ask .given .1) _ _ (entry .pre .3) in
+    let fit = within-post (entry .args .ask) (entry .args .k) _ (asked .ask .given .1) _ _ (entry .pre .3) in
     (entry .pre .0, entry .pre .1, entry .pre .2, search needs, search needs, fit)
 
 same-length : tie.Need-same-length

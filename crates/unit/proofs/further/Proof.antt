@@ -1,10 +1,6 @@
 use borrow.Author.Needs.{needs}
 use Rattle.unit.proofs.further.Statement.{statement}
 use Rattle.unit.proofs.further.Tie as tie
-use Rattle.unit.proofs.further.Reads as reads
-use Rattle.unit.proofs.further.Lts as lts
-use Rattle.unit.proofs.name_row.Reads as name-row-reads
-use Rattle.unit.proofs.room_row.Reads as room-row-reads
 use native.Mathlib.Omega.{arith}
 use mathlib.Core.Path.{_≡_, _∙_, subst⁻¹}
 use mathlib.Core.List.{[], _∷_}

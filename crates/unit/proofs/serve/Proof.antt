@@ -1,15 +1,6 @@
 use borrow.Author.Needs.{needs}
 use Rattle.unit.proofs.serve.Statement.{statement}
 use Rattle.unit.proofs.serve.Tie as tie
-use Rattle.unit.proofs.serve.Reads as reads
-use Rattle.unit.proofs.serve.Lts as lts
-use Rattle.lamp.proofs.check_into.Reads as check-into-reads
-use Rattle.unit.proofs.answered.Reads as answered-reads
-use Rattle.unit.proofs.no_entries.Reads as no-entries-reads
-use Rattle.unit.proofs.no_names.Reads as no-names-reads
-use Rattle.unit.proofs.no_places.Reads as no-places-reads
-use Rattle.unit.proofs.no_record.Reads as no-record-reads
-use Rattle.words.proofs.number.Reads as number-reads
 use mathlib.Core.Path.{sym, ap, _∙_}
 use Rattle.lamp.specs.Given.{accepted, replyOf}
 use Rattle.unit.proofs.Calls.{check-refuses, checked-as}

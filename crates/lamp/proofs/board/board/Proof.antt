@@ -1,15 +1,10 @@
 use borrow.Author.Needs.{needs}
 use Rattle.lamp.proofs.board.board.Statement.{statement}
 use Rattle.lamp.proofs.board.board.Tie as tie
-use Rattle.lamp.proofs.board.board.Reads as reads
-use Rattle.lamp.proofs.board.board.Lts as lts
-use Rattle.lamp.proofs.board.outer_of.Reads as outer-of-reads
-use Rattle.lamp.proofs.board.rings_of.Reads as rings-of-reads
-use Rattle.lamp.proofs.board.triangles_of.Reads as triangles-of-reads
 use mathlib.Core.Path.{_∙_}
 use mathlib.Core.List.{_++_}
 use Rattle.lamp.specs.Lamp.{ringRows, triangleRows, outerRows}
-use Rattle.lamp.proofs.Steps.{refuses, goes-on}
+use Rattle.lamp.proofs.Steps.{stops, goes-on}
 
 rings-of-requires : tie.Need-rings-of-requires
 rings-of-requires c κs = search needs
@@ -23,7 +18,7 @@ enum-told-2 c = search needs
 returns : tie.Need-returns
 returns c =
     let rings = c .before .before .rings-of in
-    refuses _ ringRows (rings .result) (rings .ensures) (triangleRows ++ outerRows) _ (c .enum-told2 .given .1)
+    stops _ ringRows (rings .result) (rings .ensures) (triangleRows ++ outerRows) _ (c .enum-told2 .given .1)
 
 triangles-of-requires : tie.Need-triangles-of-requires
 triangles-of-requires c κs = search needs
@@ -39,7 +34,7 @@ returns-2 c =
     let triangles = c .before .before .triangles-of in
     let past = c .before .before .before in
     let rings = past .before .before .rings-of in
-    refuses _ triangleRows (triangles .result) (triangles .ensures) outerRows _ (c .enum-told4 .given .1)
+    stops _ triangleRows (triangles .result) (triangles .ensures) outerRows _ (c .enum-told4 .given .1)
     ∙ goes-on _ ringRows (rings .result) (rings .ensures) (triangleRows ++ outerRows) _ (past .enum-told .given .1)
 
 outer-of-requires : tie.Need-outer-of-requires

@@ -1,13 +1,10 @@
 use borrow.Author.Needs.{needs}
 use Rattle.lamp.proofs.board.outer_of.Statement.{statement}
 use Rattle.lamp.proofs.board.outer_of.Tie as tie
-use Rattle.lamp.proofs.board.outer_of.Reads as reads
-use Rattle.lamp.proofs.board.outer_of.Lts as lts
-use Rattle.rings.proofs.is_outer.Reads as is-outer-reads
 use borrow.Author.Tests.{not-true, not-false}
 use Rattle.lamp.specs.Lamp.{outerRows}
-use Rattle.lamp.proofs.Steps.{passes}
-use Rattle.lamp.proofs.Boards.{outer-bad, outer-fine}
+use Rattle.lamp.proofs.Steps.{none-stops}
+use Rattle.lamp.proofs.Boards.{outer-bad, outer-passes}
 
 shared-slice-read-is-outer : tie.Need-shared-slice-read-is-outer
 shared-slice-read-is-outer c = search needs
@@ -42,7 +39,7 @@ returns-2 c =
     let asked = c .before in
     let reading = asked .before .before .before .before in
     let entry = reading .before .before .before .before in
-    passes _ outerRows _ (entry .pre .headed .is) (outer-fine _ _ _ _ (entry .pre) _ (asked .is-outer .ensures) (not-false _ (c .if1 .left)))
+    none-stops _ outerRows _ (entry .pre .headed .is) (outer-passes _ _ _ _ (entry .pre) _ (asked .is-outer .ensures) (not-false _ (c .if1 .left)))
 
 pub outer-of-spec : {M : Type 1} → statement M
 outer-of-spec =

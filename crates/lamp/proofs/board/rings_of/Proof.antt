@@ -1,12 +1,9 @@
 use borrow.Author.Needs.{needs}
 use Rattle.lamp.proofs.board.rings_of.Statement.{statement}
 use Rattle.lamp.proofs.board.rings_of.Tie as tie
-use Rattle.lamp.proofs.board.rings_of.Reads as reads
-use Rattle.lamp.proofs.board.rings_of.Lts as lts
-use Rattle.rings.proofs.first_bad_ring.Reads as first-bad-ring-reads
 use Rattle.lamp.specs.Lamp.{ringRows}
-use Rattle.lamp.proofs.Steps.{passes}
-use Rattle.lamp.proofs.Boards.{ring-bad, rings-fine}
+use Rattle.lamp.proofs.Steps.{none-stops}
+use Rattle.lamp.proofs.Boards.{ring-bad, rings-pass}
 
 first-bad-ring-requires : tie.Need-first-bad-ring-requires
 first-bad-ring-requires c κs = search needs
@@ -25,7 +22,7 @@ cast-t10 c = search needs
 returns-2 : tie.Need-returns-2
 returns-2 c =
     let entry = c .before .before .before .before .before .before in
-    passes _ ringRows _ (entry .pre .headed .is) (rings-fine _ _ _ _ (entry .pre) _ (c .before .first-bad-ring .ensures) (c .if1 .left))
+    none-stops _ ringRows _ (entry .pre .headed .is) (rings-pass _ _ _ _ (entry .pre) _ (c .before .first-bad-ring .ensures) (c .if1 .left))
 
 pub rings-of-spec : {M : Type 1} → statement M
 rings-of-spec = tie.close (tie.spec first-bad-ring-requires cast-t8 returns cast-t10 returns-2)

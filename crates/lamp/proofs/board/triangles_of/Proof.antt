@@ -1,12 +1,9 @@
 use borrow.Author.Needs.{needs}
 use Rattle.lamp.proofs.board.triangles_of.Statement.{statement}
 use Rattle.lamp.proofs.board.triangles_of.Tie as tie
-use Rattle.lamp.proofs.board.triangles_of.Reads as reads
-use Rattle.lamp.proofs.board.triangles_of.Lts as lts
-use Rattle.rings.proofs.first_bad_triangle.Reads as first-bad-triangle-reads
 use Rattle.lamp.specs.Lamp.{triangleRows}
-use Rattle.lamp.proofs.Steps.{passes}
-use Rattle.lamp.proofs.Boards.{triangle-bad, triangles-fine}
+use Rattle.lamp.proofs.Steps.{none-stops}
+use Rattle.lamp.proofs.Boards.{triangle-bad, triangles-pass}
 
 first-bad-triangle-requires : tie.Need-first-bad-triangle-requires
 first-bad-triangle-requires c κs = search needs
@@ -25,7 +22,7 @@ cast-t10 c = search needs
 returns-2 : tie.Need-returns-2
 returns-2 c =
     let entry = c .before .before .before .before .before .before in
-    passes _ triangleRows _ (entry .pre .headed .is) (triangles-fine _ _ _ _ (entry .pre) _ (c .before .first-bad-triangle .ensures) (c .if1 .left))
+    none-stops _ triangleRows _ (entry .pre .headed .is) (triangles-pass _ _ _ _ (entry .pre) _ (c .before .first-bad-triangle .ensures) (c .if1 .left))
 
 pub triangles-of-spec : {M : Type 1} → statement M
 triangles-of-spec =

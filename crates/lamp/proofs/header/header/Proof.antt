@@ -1,17 +1,11 @@
 use borrow.Author.Needs.{needs}
 use Rattle.lamp.proofs.header.header.Statement.{statement}
 use Rattle.lamp.proofs.header.header.Tie as tie
-use Rattle.lamp.proofs.header.header.Reads as reads
-use Rattle.lamp.proofs.header.header.Lts as lts
-use Rattle.lamp.proofs.header.opening.Reads as opening-reads
-use Rattle.lamp.proofs.header.sized.Reads as sized-reads
-use Rattle.lamp.proofs.header.summed.Reads as summed-reads
-use Rattle.words.proofs.number.Reads as number-reads
-use mathlib.Core.Path.{sym, _∙_}
+use mathlib.Core.Path.{_∙_}
 use mathlib.Core.List.{_++_}
 use Rattle.lamp.specs.Lamp.{openingRows, sizeRows, sumRows}
-use Rattle.lamp.proofs.Steps.{counts, passed, refuses, goes-on}
-use Rattle.lamp.proofs.Heads.{headed}
+use Rattle.lamp.proofs.Steps.{counts, none-applied, stops, goes-on}
+use Rattle.lamp.proofs.Heads.{size-headed}
 
 opening-requires : tie.Need-opening-requires
 opening-requires c κs = search needs
@@ -25,7 +19,7 @@ enum-told c = search needs
 returns : tie.Need-returns
 returns c =
     let asked = c .before .before .opening in
-    refuses _ openingRows (asked .result) (asked .ensures) (sizeRows ++ sumRows) _ (c .enum-told .given .1)
+    stops _ openingRows (asked .result) (asked .ensures) (sizeRows ++ sumRows) _ (c .enum-told .given .1)
 
 number-requires : tie.Need-number-requires
 number-requires c κs = search needs
@@ -47,7 +41,7 @@ returns-2 c =
     let sizing = c .before .before in
     let known = sizing .before .before .before in
     let asked = known .before .before .opening in
-    refuses _ sizeRows (sizing .sized .result) (sizing .sized .ensures) sumRows _ (c .enum-told3 .given .1)
+    stops _ sizeRows (sizing .sized .result) (sizing .sized .ensures) sumRows _ (c .enum-told3 .given .1)
     ∙ goes-on _ openingRows (asked .result) (asked .ensures) (sizeRows ++ sumRows) _ (known .o .given .1)
 
 summed-requires : tie.Need-summed-requires
@@ -56,7 +50,7 @@ summed-requires c κs =
     let known = sizing .before .before .before in
     let asked = known .before .before .opening in
     let is = sizing .before .number .ensures .0 ∙ counts _ openingRows (asked .result) (asked .ensures) _ (known .o .given .1) in
-    headed _ _ is (passed _ sizeRows (sizing .sized .result) (sizing .sized .ensures) _ (c .enum-told2 .given .1))
+    size-headed _ _ is (none-applied _ sizeRows (sizing .sized .result) (sizing .sized .ensures) _ (c .enum-told2 .given .1))
 
 returns-3 : tie.Need-returns-3
 returns-3 c =

@@ -1,15 +1,11 @@
 use borrow.Author.Needs.{needs}
 use Rattle.lamp.proofs.header.opening.Statement.{statement}
 use Rattle.lamp.proofs.header.opening.Tie as tie
-use Rattle.lamp.proofs.header.opening.Reads as reads
-use Rattle.lamp.proofs.header.opening.Lts as lts
-use Rattle.block.proofs.is_marked.Reads as is-marked-reads
-use Rattle.words.proofs.word.Reads as word-reads
 use mathlib.Core.Path.{sym, _∙_}
 use borrow.Author.Tests.{not-true, not-false}
 use Rattle.lamp.specs.Lamp.{openingRows}
-use Rattle.lamp.proofs.Steps.{passes}
-use Rattle.lamp.proofs.Heads.{short, unmarked, other-version, opening-fine}
+use Rattle.lamp.proofs.Steps.{none-stops}
+use Rattle.lamp.proofs.Heads.{short, no-mark, other-version, opening-passes}
 
 returns : tie.Need-returns
 returns c = short _ (c .if1 .taken)
@@ -18,7 +14,7 @@ is-marked-requires : tie.Need-is-marked-requires
 is-marked-requires c κs = search needs
 
 returns-2 : tie.Need-returns-2
-returns-2 c = unmarked _ (c .before .before .if1 .left) (sym (c .before .is-marked .ensures) ∙ not-true _ (c .if2 .taken))
+returns-2 c = no-mark _ (c .before .before .if1 .left) (sym (c .before .is-marked .ensures) ∙ not-true _ (c .if2 .taken))
 
 word-requires : tie.Need-word-requires
 word-requires c κs = search needs
@@ -37,7 +33,7 @@ returns-4 c =
     let looked = c .before .before .before in
     let mark = sym (looked .before .is-marked .ensures) ∙ not-false _ (looked .if2 .left) in
     let one = sym (c .before .before .word .ensures) ∙ c .before .if3 .left in
-    passes _ openingRows _ (c .word2 .ensures) (opening-fine _ (looked .before .before .if1 .left) mark one)
+    none-stops _ openingRows _ (c .word2 .ensures) (opening-passes _ (looked .before .before .if1 .left) mark one)
 
 pub opening-spec : {M : Type 1} → statement M
 opening-spec =

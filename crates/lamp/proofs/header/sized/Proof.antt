@@ -1,15 +1,12 @@
 use borrow.Author.Needs.{needs}
 use Rattle.lamp.proofs.header.sized.Statement.{statement}
 use Rattle.lamp.proofs.header.sized.Tie as tie
-use Rattle.lamp.proofs.header.sized.Reads as reads
-use Rattle.lamp.proofs.header.sized.Lts as lts
-use Rattle.block.proofs.Block.size.Reads as size-reads
 use native.Mathlib.Omega.{arith}
 use mathlib.Core.Path.{sym, ap, _∙_}
 use Rattle.block.specs.Layout.{size}
 use Rattle.lamp.specs.Lamp.{sizeRows}
-use Rattle.lamp.proofs.Steps.{passes}
-use Rattle.lamp.proofs.Heads.{few-posts, many-posts, other-length, size-fine}
+use Rattle.lamp.proofs.Steps.{none-stops}
+use Rattle.lamp.proofs.Heads.{few-posts, many-posts, other-length, size-passes}
 
 returns : tie.Need-returns
 returns c =
@@ -37,7 +34,7 @@ returns-4 : tie.Need-returns-4
 returns-4 c =
     let entry = c .before .before .before .before .before in
     let asked = c .before .size .ensures ∙ ap size (entry .pre) in
-    passes _ sizeRows _ (entry .pre) (size-fine (entry .args .s .now) (omega (arith, entry .pre)) (omega (arith, entry .pre)) (c .if3 .left ∙ asked))
+    none-stops _ sizeRows _ (entry .pre) (size-passes (entry .args .s .now) (omega (arith, entry .pre)) (omega (arith, entry .pre)) (c .if3 .left ∙ asked))
 
 pub sized-spec : {M : Type 1} → statement M
 sized-spec = tie.close (tie.spec returns returns-2 size-requires returns-3 cast-t10 returns-4)

@@ -1,11 +1,6 @@
 use borrow.Author.Needs.{needs}
 use Rattle.lamp.proofs.header.summed.Statement.{statement}
 use Rattle.lamp.proofs.header.summed.Tie as tie
-use Rattle.lamp.proofs.header.summed.Reads as reads
-use Rattle.lamp.proofs.header.summed.Lts as lts
-use Rattle.block.proofs.Block.sum_at.Reads as sum-at-reads
-use Rattle.words.proofs.sum.Reads as sum-reads
-use Rattle.words.proofs.word.Reads as word-reads
 use Prim.Native.Nat.{ℕ}
 use mathlib.Core.Path.{_≡_, sym, ap, _∙_}
 use lib.ListN.{take}
@@ -13,8 +8,8 @@ use Rattle.words.specs.Numbers.{wordAt, wrapped}
 use Rattle.block.specs.Layout.{sumAt}
 use Rattle.block.specs.Block.{posts, statedSum, earlierSum}
 use Rattle.lamp.specs.Lamp.{sumRows}
-use Rattle.lamp.proofs.Steps.{passes}
-use Rattle.lamp.proofs.Heads.{other-sum, sum-fine}
+use Rattle.lamp.proofs.Steps.{none-stops}
+use Rattle.lamp.proofs.Heads.{other-sum, sum-passes}
 
 cast-n : tie.Need-cast-n
 cast-n c = search needs
@@ -44,7 +39,7 @@ returns-2 c =
     let e : c .before .before .before .sum-at .result ≡ sumAt (posts s) = c .before .before .before .sum-at .ensures ∙ ap sumAt (entry .pre .is) in
     let stated : c .before .before .word .result ≡ statedSum s = c .before .before .word .ensures ∙ ap (wordAt s) e in
     let added : c .before .sum .result ≡ earlierSum s = c .before .sum .ensures ∙ ap (λ (k : ℕ). wrapped (take k s)) e in
-    passes s sumRows _ (entry .pre .is) (sum-fine s (sym stated ∙ c .if1 .left ∙ added))
+    none-stops s sumRows _ (entry .pre .is) (sum-passes s (sym stated ∙ c .if1 .left ∙ added))
 
 pub summed-spec : {M : Type 1} → statement M
 summed-spec =
