@@ -49,5 +49,10 @@ rise n a (suc b) h = go (ltb a (suc b)) refl
 pub with-drop : (n a b : ℕ) → n < 2 ^ 30 → a < 2 ^ 30 → b < 2 ^ 30 → b ≤ n + a
     → toZ w32 n +ℤ toZ w32 (ofZ w32 (toZ w32 a -ℤ toZ w32 b)) ≡ pos (n + a - b)
 with-drop n a b hn ha hb h =
-    rw (toZ-pos w32 {n = n} (omega arith), toZ-pos w32 {n = a} (omega arith), toZ-pos w32 {n = b} (omega arith), toZ-ofZ (drop-fits a b (omega arith) (omega arith)))
+    rw (
+      toZ-pos w32 {n = n} (omega arith),
+      toZ-pos w32 {n = a} (omega arith),
+      toZ-pos w32 {n = b} (omega arith),
+      toZ-ofZ (drop-fits a b (omega arith) (omega arith)),
+    )
     (rise n a b h)
