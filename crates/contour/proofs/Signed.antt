@@ -19,9 +19,6 @@ pub minus-pos : (a b : ℕ) → b ≤ a → pos a -ℤ pos b ≡ pos (a - b)
 minus-pos a zero h = rw (add-zero, sub-zero)
 minus-pos a (suc b) h = rw (le-ltb a (suc b) h)
 
-pub sub-pos : (a b : ℕ) → a < 2 ^ 31 → b < 2 ^ 31 → b ≤ a → toZ w32 a -ℤ toZ w32 b ≡ pos (a - b)
-sub-pos a b ha hb h = rw (toZ-pos w32 ha, toZ-pos w32 hb) (minus-pos a b h)
-
 pub half-pos : (a : ℕ) → a < 2 ^ 31 → quotZ (toZ w32 a) (pos 2) ≡ pos (a / 2)
 half-pos a ha = rw (toZ-pos w32 ha)
 
