@@ -64,8 +64,11 @@ pub record Reach (right off : List ℕ) (p m a s i : ℕ) : Type 0 where
   pub in-right : Below (length right) (path right a (m - i))
   pub in-off : Below (length off) (path right (getD right a 0) (m - i))
 
-pub reach-start : (right off : List ℕ) (p m : ℕ) → Below (length right) (path right p m) → Below (length off) (path right (getD right p 0) m) → Reach right off p m p 0 0
-reach-start right off p m h k = let z = sub-zero m in record { upto = omega arith; goes = rw z refl; sums = rw z (omega arith); in-right = rw z h; in-off = rw z k }
+pub reach-start : (right off : List ℕ) (p m : ℕ) → Below (length right) (path right p m) → Below (length off) (path right (getD right p 0) m)
+    → Reach right off p m p 0 0
+reach-start right off p m h k =
+    let z = sub-zero m in
+    record { upto = omega arith; goes = rw z refl; sums = rw z (omega arith); in-right = rw z h; in-off = rw z k }
 
 module _ (right off : List ℕ) (p m a s i : ℕ) (R : Reach right off p m a s i) where
   pub reach-end : m ≤ i → (a ≡ walk right p m) × (s ≡ along off (path right (getD right p 0) m))
@@ -112,17 +115,30 @@ pub record Hang (right off₀ cover₀ : List ℕ) (first m d v : ℕ) (off cove
   pub in-cover : Below (length cover₀) (path right a (m - i))
 
 module _ (right off₀ cover₀ : List ℕ) (first m d v : ℕ) where
-  pub hang-start : Below (length right) (path right first m) → Below (length off₀) (path right first m) → Below (length cover₀) (path right first m) → Fits off₀ (path right first m) 1 d
+  pub hang-start : Below (length right) (path right first m) → Below (length off₀) (path right first m) → Below (length cover₀) (path right first m)
+      → Fits off₀ (path right first m) 1 d
       → Hang right off₀ cover₀ first m d v off₀ cover₀ first 1 0
   hang-start h k l f =
       let z = sub-zero m in
-      record { upto = omega arith; offs = rw z refl; covers = rw z refl; fits = rw z f; same-off = refl; same-cover = refl; in-right = rw z h; in-off = rw z k; in-cover = rw z l }
+      record {
+        upto = omega arith;
+        offs = rw z refl;
+        covers = rw z refl;
+        fits = rw z f;
+        same-off = refl;
+        same-cover = refl;
+        in-right = rw z h;
+        in-off = rw z k;
+        in-cover = rw z l;
+      }
 
   module _ (off cover : List ℕ) (a s i : ℕ) (R : Hang right off₀ cover₀ first m d v off cover a s i) where
     pub hang-end : m ≤ i → (off ≡ hung off₀ (path right first m) 1 d) × (cover ≡ covered cover₀ (path right first m) v)
     hang-end h =
-        let e = path-done right a i m h in
-        (sym (hung-nil off s d) ∙ ap (λ (l : List ℕ). hung off l s d) (sym e) ∙ R .offs, sym (covered-nil cover v) ∙ ap (λ (l : List ℕ). covered cover l v) (sym e) ∙ R .covers)
+        let e = path-done right a i m h in (
+          sym (hung-nil off s d) ∙ ap (λ (l : List ℕ). hung off l s d) (sym e) ∙ R .offs,
+          sym (covered-nil cover v) ∙ ap (λ (l : List ℕ). covered cover l v) (sym e) ∙ R .covers,
+        )
 
     module _ (h : i < m) (j : ℕ) (ej : j ≡ a) where
       abbrev l : List ℕ

@@ -42,7 +42,15 @@ module _ (right off xs₀ : List ℕ) (v1 v2 k : ℕ) where
   pub spread-start : Line right off xs₀ v1 v2 k → Spread right off xs₀ v1 v2 k xs₀ v1 0 0
   spread-start L =
       let z = sub-zero k in
-      record { upto = omega arith; lays = rw z refl; sums = rw z (omega arith); same = refl; in-right = rw z (L .of-right); in-off = rw z (L .of-off); in-xs = rw z (L .of-xs) }
+      record {
+        upto = omega arith;
+        lays = rw z refl;
+        sums = rw z (omega arith);
+        same = refl;
+        in-right = rw z (L .of-right);
+        in-off = rw z (L .of-off);
+        in-xs = rw z (L .of-xs);
+      }
 
   module _ (xs : List ℕ) (a s i : ℕ) (R : Spread right off xs₀ v1 v2 k xs a s i) where
     pub spread-done : k ≤ i → xs ≡ laid xs₀ off 0 (until right v1 v2 k)
@@ -70,7 +78,8 @@ module _ (right off xs₀ : List ℕ) (v1 v2 k : ℕ) where
       pub spread-fits : along off (until right v1 v2 k) ≤ 65535 → s + getD off j 0 ≤ 65535
       spread-fits f = omega (arith, sums)
 
-      lays : laid (set xs j (s + getD off j 0)) off (s + getD off j 0) (cond (eqb a v2) [] (until right (getD right j 0) v2 (k - (i + 1)))) ≡ laid xs₀ off 0 (until right v1 v2 k)
+      lays : laid (set xs j (s + getD off j 0)) off (s + getD off j 0) (cond (eqb a v2) [] (until right (getD right j 0) v2 (k - (i + 1))))
+          ≡ laid xs₀ off 0 (until right v1 v2 k)
       lays = sym (laid-cons xs off s j (cond (eqb a v2) [] (until right (getD right j 0) v2 (k - (i + 1))))) ∙ ap (laid xs off s) (sym turn) ∙ R .lays
 
       pub spread-same : length (set xs j (s + getD off j 0)) ≡ length xs₀
@@ -79,7 +88,8 @@ module _ (right off xs₀ : List ℕ) (v1 v2 k : ℕ) where
       pub spread-end : a ≡ v2 → set xs j (s + getD off j 0) ≡ laid xs₀ off 0 (until right v1 v2 k)
       spread-end e =
           sym (laid-nil (set xs j (s + getD off j 0)) off (s + getD off j 0))
-          ∙ ap (λ (b : Bool). laid (set xs j (s + getD off j 0)) off (s + getD off j 0) (cond b [] (until right (getD right j 0) v2 (k - (i + 1))))) (sym (eq-eqb a v2 e)) ∙ lays
+          ∙ ap (λ (b : Bool). laid (set xs j (s + getD off j 0)) off (s + getD off j 0) (cond b [] (until right (getD right j 0) v2 (k - (i + 1)))))
+          (sym (eq-eqb a v2 e)) ∙ lays
 
       pub spread-again : (a ≡ v2 → ⊥) → Spread right off xs₀ v1 v2 k (set xs j (s + getD off j 0)) (getD right j 0) (s + getD off j 0) (i + 1)
       spread-again n =
@@ -127,7 +137,12 @@ module _ (vs off cover xs₀ : List ℕ) (k : ℕ) (W : Rooms vs off cover xs₀
       settle-xs = rw (eu, R .same) (W .of-xs (i - 1) (omega (arith, R .upto)))
 
       pub settle-ready : (u < length xs) × (u < length off) × (c < length xs) × ColumnFits xs off u c
-      settle-ready = (settle-xs, rw eu (W .of-off (i - 1) (omega (arith, R .upto))), rw (ec, eu, R .same) (W .of-covers (i - 1) (omega (arith, R .upto))), settles-turn xs off cover vs i u c h eu ec (R .fits) .0)
+      settle-ready = (
+        settle-xs,
+        rw eu (W .of-off (i - 1) (omega (arith, R .upto))),
+        rw (ec, eu, R .same) (W .of-covers (i - 1) (omega (arith, R .upto))),
+        settles-turn xs off cover vs i u c h eu ec (R .fits) .0,
+      )
 
       pub settle-again : (r : ℕ) → r ≡ columnOf xs off u c → Settling vs off cover xs₀ k (set xs u r) (i - 1)
       settle-again r er =

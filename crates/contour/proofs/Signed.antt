@@ -19,9 +19,6 @@ pub minus-pos : (a b : ℕ) → b ≤ a → pos a -ℤ pos b ≡ pos (a - b)
 minus-pos a zero h = rw (add-zero, sub-zero)
 minus-pos a (suc b) h = rw (le-ltb a (suc b) h)
 
-pub sub-pos : (a b : ℕ) → a < 2 ^ 31 → b < 2 ^ 31 → b ≤ a → toZ w32 a -ℤ toZ w32 b ≡ pos (a - b)
-sub-pos a b ha hb h = rw (toZ-pos w32 ha, toZ-pos w32 hb) (minus-pos a b h)
-
 pub half-pos : (a : ℕ) → a < 2 ^ 31 → quotZ (toZ w32 a) (pos 2) ≡ pos (a / 2)
 half-pos a ha = rw (toZ-pos w32 ha)
 
@@ -49,5 +46,10 @@ rise n a (suc b) h = go (ltb a (suc b)) refl
 pub with-drop : (n a b : ℕ) → n < 2 ^ 30 → a < 2 ^ 30 → b < 2 ^ 30 → b ≤ n + a
     → toZ w32 n +ℤ toZ w32 (ofZ w32 (toZ w32 a -ℤ toZ w32 b)) ≡ pos (n + a - b)
 with-drop n a b hn ha hb h =
-    rw (toZ-pos w32 {n = n} (omega arith), toZ-pos w32 {n = a} (omega arith), toZ-pos w32 {n = b} (omega arith), toZ-ofZ (drop-fits a b (omega arith) (omega arith)))
+    rw (
+      toZ-pos w32 {n = n} (omega arith),
+      toZ-pos w32 {n = a} (omega arith),
+      toZ-pos w32 {n = b} (omega arith),
+      toZ-ofZ (drop-fits a b (omega arith) (omega arith)),
+    )
     (rise n a b h)

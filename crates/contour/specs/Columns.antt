@@ -34,7 +34,8 @@ ColumnFits xs off u c = (c ≡ u → ⊥) → (bias ≤ getD xs c 0 + getD off u
 abbrev pub Settles : List ℕ → List ℕ → List ℕ → List ℕ → ℕ → Type 0
 Settles xs off cover vs zero = Unit {0}
 Settles xs off cover vs (suc i) =
-    ColumnFits xs off (getD vs i 0) (getD cover (getD vs i 0) 0) × Settles (set xs (getD vs i 0) (columnOf xs off (getD vs i 0) (getD cover (getD vs i 0) 0))) off cover vs i
+    ColumnFits xs off (getD vs i 0) (getD cover (getD vs i 0) 0)
+    × Settles (set xs (getD vs i 0) (columnOf xs off (getD vs i 0) (getD cover (getD vs i 0) 0))) off cover vs i
 
 -- the posts in the first k positions, and those that cover them, have room in the arrays
 pub record Rooms (vs off cover xs : List ℕ) (k : ℕ) : Type 0 where

@@ -43,8 +43,10 @@ pub struct Span {
 }
 
 fn reach_right(right: &[u16], off: &[u16], p: u16, m: usize) -> Span
-    requires { ⌜ Below (length (now right)) (path (now right) p m) × Below (length (now off)) (path (now right) (getD (now right) p 0) m) × (along (now off) (path (now right) (getD (now right) p 0) m) ≤ 65535) ⌝ }
-    ensures { λ r. ⌜ (r .end ≡ walk (now (right .entry)) p m) × (r .sum ≡ along (now (off .entry)) (path (now (right .entry)) (getD (now (right .entry)) p 0) m)) ⌝ }
+    requires { ⌜ Below (length (now right)) (path (now right) p m) × Below (length (now off)) (path (now right) (getD (now right) p 0) m)
+        × (along (now off) (path (now right) (getD (now right) p 0) m) ≤ 65535) ⌝ }
+    ensures { λ r. ⌜ (r .end ≡ walk (now (right .entry)) p m)
+        × (r .sum ≡ along (now (off .entry)) (path (now (right .entry)) (getD (now (right .entry)) p 0) m)) ⌝ }
 {
     let mut a = p;
     let mut s: u16 = 0;
@@ -61,8 +63,10 @@ fn reach_right(right: &[u16], off: &[u16], p: u16, m: usize) -> Span
 
 // The m posts from `first` on are covered by v, whose offset is d.
 fn hang(right: &[u16], off: &mut [u16], cover: &mut [u16], first: u16, m: usize, d: u16, v: u16)
-    requires { ⌜ Below (length (now right)) (path (now right) first m) × Below (length (now off)) (path (now right) first m) × Below (length (now cover)) (path (now right) first m) × Fits (now off) (path (now right) first m) 1 d × (d ≤ bias) ⌝ }
-    ensures { λ r. ⌜ (now (off .exit) ≡ hung (now (off .entry)) (path (now (right .entry)) first m) 1 d) × (now (cover .exit) ≡ covered (now (cover .entry)) (path (now (right .entry)) first m) v) ⌝ }
+    requires { ⌜ Below (length (now right)) (path (now right) first m) × Below (length (now off)) (path (now right) first m)
+        × Below (length (now cover)) (path (now right) first m) × Fits (now off) (path (now right) first m) 1 d × (d ≤ bias) ⌝ }
+    ensures { λ r. ⌜ (now (off .exit) ≡ hung (now (off .entry)) (path (now (right .entry)) first m) 1 d)
+        × (now (cover .exit) ≡ covered (now (cover .entry)) (path (now (right .entry)) first m) v) ⌝ }
 {
     let mut a = first;
     let mut s: u16 = 1;

@@ -15,10 +15,6 @@ pub below-all : (n : ℕ) (l : List ℕ) → ((a : ℕ) → In a l → a < n) �
 below-all n [] h = tt
 below-all n (a ∷ l) h = (h a (inl refl), below-all n l (λ b i. h b (inr i)))
 
-pub all-below : (n : ℕ) (l : List ℕ) → Below n l → (a : ℕ) → In a l → a < n
-all-below n (x ∷ l) h a (inl e) = rw e (h .0)
-all-below n (x ∷ l) h a (inr i) = all-below n l (h .1) a i
-
 -- ---- by right neighbours
 pub path-list : (right : List ℕ) (a : ℕ) (L R : List ℕ) → ((x y : ℕ) → Adj (a ∷ (L ++ R)) x y → getD right x 0 ≡ y) → path right a (suc (length L)) ≡ a ∷ L
 unfolding path
@@ -69,7 +65,8 @@ module _ (X : ℕ → ℕ) where
   along-list off a (b ∷ L) h = omega (arith, h a b (inl (refl, refl)), along-list off b L (λ x y i. h x y (inr i)))
 
   apart-set : (off : List ℕ) (a w : ℕ) (L : List ℕ) → ¬ (In a L) → Apart off (a ∷ L) → Apart (set off a w) (a ∷ L)
-  apart-set off a w L n h x y i = h x y i ∙ ap (λ (k : ℕ). X x + k) (sym (getD-set-other off a y w 0 (λ e. n (subst (λ (b : ℕ). In b L) e (adj-tail x y a L i)))))
+  apart-set off a w L n h x y i = h x y i ∙ ap (λ (k : ℕ). X x + k)
+      (sym (getD-set-other off a y w 0 (λ e. n (subst (λ (b : ℕ). In b L) e (adj-tail x y a L i)))))
 
   module _ (base d most : ℕ) (small : most + bias ≤ 65000) where
     pub fits-list : (off : List ℕ) (a s : ℕ) (L : List ℕ) → Once L → Apart off (a ∷ L) → s + base ≡ X a + 1 → ((y : ℕ) → In y L → X y ≤ most) → Fits off L s d
@@ -78,7 +75,8 @@ module _ (X : ℕ → ℕ) where
         let z = h a b (inl (refl, refl)) in
         let k = f b (inl refl) in (
           omega arith,
-          fits-list (set off b (s + getD off b 0 + bias - d)) b (s + getD off b 0) L (o .1) (apart-set off b (s + getD off b 0 + bias - d) L (o .0) (λ x y i. h x y (inr i))) (omega arith) (λ y i. f y (inr i)),
+          fits-list (set off b (s + getD off b 0 + bias - d)) b (s + getD off b 0) L (o .1)
+              (apart-set off b (s + getD off b 0 + bias - d) L (o .0) (λ x y i. h x y (inr i))) (omega arith) (λ y i. f y (inr i)),
         )
 
   pub hung-off : (off L : List ℕ) (s d u : ℕ) → ¬ (In u L) → getD (hung off L s d) u 0 ≡ getD off u 0
@@ -97,7 +95,8 @@ module _ (X : ℕ → ℕ) where
       → (u : ℕ) → In u L → X u + 1 + bias ≡ base + d + getD (hung off L s d) u 0
   unfolding hung
   hung-at base d low off a s (b ∷ L) o w h e u (inl q) =
-      let here = hung-off (set off b (s + getD off b 0 + bias - d)) L (s + getD off b 0) d b (o .0) ∙ getD-set-same off b (s + getD off b 0 + bias - d) 0 (w .0) in
+      let here = hung-off (set off b (s + getD off b 0 + bias - d)) L (s + getD off b 0) d b (o .0)
+      ∙ getD-set-same off b (s + getD off b 0 + bias - d) 0 (w .0) in
       rw q (omega (arith, here, h a b (inl (refl, refl))))
   hung-at base d low off a s (b ∷ L) o w h e u (inr j) =
       hung-at base d low (set off b (s + getD off b 0 + bias - d)) b (s + getD off b 0) L (o .1)

@@ -122,11 +122,22 @@ module _ (G : List (List ℕ)) (t : Stage) (v : ℕ) (s : Step G t v) (K : Kept 
   pub moves : StepMoves G t v s
   moves =
       let pq = ends t (s .X) (s .p) (s .M) (s .q) (s .Y) D in
-      record { stays = stays; by-one = by-one; by-two = by-two; alike = alike; cover-placed = cover-placed; one = one-step; up = pq .sum; down = pq .dif; within = within D }
+      record {
+        stays = stays;
+        by-one = by-one;
+        by-two = by-two;
+        alike = alike;
+        cover-placed = cover-placed;
+        one = one-step;
+        up = pq .sum;
+        down = pq .dif;
+        within = within D;
+      }
 
   -- ---- the next stage keeps it
   drawn' : Drawn t' (build-post (s .X) (s .p) (s .M) (s .q) (s .Y) v (R .B'))
-  drawn' = subst⁻¹ (λ (n : Stage). Drawn n (build-post (s .X) (s .p) (s .M) (s .q) (s .Y) v (R .B'))) place-is (step t (s .X) (s .p) (s .M) (s .q) (s .Y) v D (s .new))
+  drawn' = subst⁻¹ (λ (n : Stage). Drawn n (build-post (s .X) (s .p) (s .M) (s .q) (s .Y) v (R .B'))) place-is
+      (step t (s .X) (s .p) (s .M) (s .q) (s .Y) v D (s .new))
 
   on-new : In v (t' .contour)
   on-new = rw (s .after) (in-right v (s .X) (s .p ∷ v ∷ s .q ∷ s .Y) (inr (inl refl)))
@@ -186,12 +197,14 @@ module _ (G : List (List ℕ)) (t : Stage) (v : ℕ) (s : Step G t v) (K : Kept 
               let r = in-groups (t .group) u (s .M) j in
               inr (groups-in (t .group) (t .cover u) (r .0) (s .M) (r .1) (K .together u (r .0) hu (λ k. n (still-on u k m)) (in-M (r .0) (r .1)) (r .2)))
       go (no m) (no e) =
-          subst⁻¹ (In (t' .cover u)) (group-old c e) (rw (cover-off u m) (K .together u c hu (λ k. n (still-on u k m)) (was-on c i e) (subst (In u) (group-old c e) g)))
+          subst⁻¹ (In (t' .cover u)) (group-old c e)
+          (rw (cover-off u m) (K .together u c hu (λ k. n (still-on u k m)) (was-on c i e) (subst (In u) (group-old c e) g)))
 
   behind' : (i : ℕ) → i < length (t' .placed) → ¬ (In (getD (t' .placed) i 0) (t' .contour))
       → (j : ℕ) × (i < j) × (j < length (t' .placed)) × (getD (t' .placed) j 0 ≡ t' .cover (getD (t' .placed) i 0))
   behind' =
-      subst⁻¹ (λ (l : List ℕ). (i : ℕ) → i < length l → ¬ (In (getD l i 0) (t' .contour)) → (j : ℕ) × (i < j) × (j < length l) × (getD l j 0 ≡ t' .cover (getD l i 0))) (place-placed G t v) at
+      subst⁻¹ (λ (l : List ℕ). (i : ℕ) → i < length l → ¬ (In (getD l i 0) (t' .contour)) → (j : ℕ) × (i < j) × (j < length l)
+      × (getD l j 0 ≡ t' .cover (getD l i 0))) (place-placed G t v) at
     where
       n : length (t .placed ++ v ∷ []) ≡ length (t .placed) + 1
       n = omega (arith, length-append (t .placed) (v ∷ []))
@@ -200,7 +213,8 @@ module _ (G : List (List ℕ)) (t : Stage) (v : ℕ) (s : Step G t v) (K : Kept 
           → (j : ℕ) × (i < j) × (j < length (t .placed ++ v ∷ [])) × (getD (t .placed ++ v ∷ []) j 0 ≡ t' .cover (getD (t .placed ++ v ∷ []) i 0))
       at i h k = go (decLt i (length (t .placed)))
         where
-          go : Dec (i < length (t .placed)) → (j : ℕ) × (i < j) × (j < length (t .placed ++ v ∷ [])) × (getD (t .placed ++ v ∷ []) j 0 ≡ t' .cover (getD (t .placed ++ v ∷ []) i 0))
+          go : Dec (i < length (t .placed)) → (j : ℕ) × (i < j) × (j < length (t .placed ++ v ∷ []))
+              × (getD (t .placed ++ v ∷ []) j 0 ≡ t' .cover (getD (t .placed ++ v ∷ []) i 0))
           go (no m) = absurd (k (rw (getD-at (t .placed) v [] 0 i (omega (arith, n))) on-new))
           go (yes l) = low (in-dec u (s .M))
             where
@@ -210,28 +224,49 @@ module _ (G : List (List ℕ)) (t : Stage) (v : ℕ) (s : Step G t v) (K : Kept 
               e : getD (t .placed ++ v ∷ []) i 0 ≡ getD (t .placed) i 0
               e = List·getD-append (t .placed) (v ∷ []) 0 i l
 
-              low : Dec (In (getD (t .placed) i 0) (s .M)) → (j : ℕ) × (i < j) × (j < length (t .placed ++ v ∷ [])) × (getD (t .placed ++ v ∷ []) j 0 ≡ t' .cover (getD (t .placed ++ v ∷ []) i 0))
-              low (yes m) = (length (t .placed), l, omega (arith, n), getD-at (t .placed) v [] 0 (length (t .placed)) refl ∙ sym (ap (t' .cover) e ∙ cover-in (getD (t .placed) i 0) m))
+              low : Dec (In (getD (t .placed) i 0) (s .M)) → (j : ℕ) × (i < j) × (j < length (t .placed ++ v ∷ []))
+                  × (getD (t .placed ++ v ∷ []) j 0 ≡ t' .cover (getD (t .placed ++ v ∷ []) i 0))
+              low (yes m) = (
+                length (t .placed),
+                l,
+                omega (arith, n),
+                getD-at (t .placed) v [] 0 (length (t .placed)) refl
+                    ∙ sym (ap (t' .cover) e ∙ cover-in (getD (t .placed) i 0) m),
+              )
               low (no m) =
-                  let r = K .behind i l (λ c. k (rw e (still-on (getD (t .placed) i 0) c m))) in
-                  (r .0, r .1, omega (arith, n, r .2), List·getD-append (t .placed) (v ∷ []) 0 (r .0) (r .2) ∙ r .3 ∙ sym (ap (t' .cover) e ∙ cover-off (getD (t .placed) i 0) m))
+                  let r = K .behind i l (λ c. k (rw e (still-on (getD (t .placed) i 0) c m))) in (
+                    r .0,
+                    r .1,
+                    omega (arith, n, r .2),
+                    List·getD-append (t .placed) (v ∷ []) 0 (r .0) (r .2) ∙ r .3
+                        ∙ sym (ap (t' .cover) e ∙ cover-off (getD (t .placed) i 0) m),
+                  )
 
   -- v1 stays where it is
   pub first-kept : post (t' .placed) 1 ≡ post (t .placed) 1
-  first-kept = ap (λ (l : List ℕ). post l 1) (place-placed G t v) ∙ List·getD-append (t .placed) (v ∷ []) 0 0 (some (t .placed) (s .p) (s .on-placed (s .p) (rw (s .before) (in-right (s .p) (s .X) (s .p ∷ (s .M ++ s .q ∷ s .Y)) (inl refl)))))
+  first-kept = ap (λ (l : List ℕ). post l 1) (place-placed G t v) ∙ List·getD-append (t .placed) (v ∷ []) 0 0
+      (some (t .placed) (s .p) (s .on-placed (s .p) (rw (s .before) (in-right (s .p) (s .X) (s .p ∷ (s .M ++ s .q ∷ s .Y)) (inl refl)))))
     where
       some : (l : List ℕ) (a : ℕ) → In a l → 0 < length l
       some [] a h = absurd h
       some (x ∷ l) a h = omega arith
 
   pub first-on : In (post (t .placed) 1) (s .X ++ s .p ∷ [])
-  first-on = in-head (post (t .placed) 1) (s .X ++ s .p ∷ []) (head-same (post (t .placed) 1) (s .X) (s .p) (s .M ++ s .q ∷ s .Y) [] (subst (λ (l : List ℕ). Head l (post (t .placed) 1)) (s .before) (s .old .first)))
+  first-on = in-head (post (t .placed) 1) (s .X ++ s .p ∷ [])
+      (head-same (post (t .placed) 1) (s .X) (s .p) (s .M ++ s .q ∷ s .Y) [] (subst (λ (l : List ℕ). Head l (post (t .placed) 1)) (s .before) (s .old .first)))
 
   origin' : t' .x (post (t' .placed) 1) ≡ 0
   origin' = ap (t' .x) first-kept ∙ stays (post (t .placed) 1) first-on ∙ K .origin
 
-  pub kept : Kept t'
-  kept = record { C = s .X ++ s .p ∷ v ∷ s .q ∷ s .Y; B = build-post (s .X) (s .p) (s .M) (s .q) (s .Y) v (R .B'); drawn = drawn'; together = together'; origin = origin'; behind = behind' }
+  pub kept-next : Kept t'
+  kept-next = record {
+    C = s .X ++ s .p ∷ v ∷ s .q ∷ s .Y;
+    B = build-post (s .X) (s .p) (s .M) (s .q) (s .Y) v (R .B');
+    drawn = drawn';
+    together = together';
+    origin = origin';
+    behind = behind';
+  }
 
 -- stage 3 covers nobody
 pub kept-third : (v1 v2 v3 : ℕ) → v1 ≢ v2 → v1 ≢ v3 → v2 ≢ v3 → Kept (third v1 v2 v3)
@@ -257,4 +292,4 @@ pub kept-at : (G : List (List ℕ)) (vn : ℕ) (vs : List ℕ) → Plane G (post
     → (k : ℕ) → 3 ≤ k → k ≤ length vs → Kept (stage G (take k vs))
 kept-at G vn vs P A k h i =
     let d = three-differ vs (fits-once G vn vs P A) (omega arith) in
-    at-each-stage G vn vs P A Kept (kept-third (post vs 1) (post vs 2) (post vs 3) (d .0) (d .1) (d .2)) (λ t v s K. kept G t v s K) k h i
+    at-each-stage G vn vs P A Kept (kept-third (post vs 1) (post vs 2) (post vs 3) (d .0) (d .1) (d .2)) (λ t v s K. kept-next G t v s K) k h i

@@ -5,5 +5,5 @@ pub mod Shown
 pub mod Next
 pub mod Third
 pub mod Read
-pub mod Given
+pub mod Told
 pub mod Recording

@@ -19,7 +19,7 @@ use Rattle.placing.proofs.Steps.{Step, step-at, stage-next, stage-placed}
 use Rattle.contour.specs.Arrays.{Ready, Over}
 use Rattle.engine.specs.Shows.{Shows, Holds}
 use Rattle.engine.proofs.Kept.{Kept, kept-at}
-use Rattle.engine.proofs.Shown.{ready, shown, roomy}
+use Rattle.engine.proofs.Shown.{over-ready, shown, roomy}
 
 module _ (at ents vs rank : List ℕ) (A : Fitted at ents vs rank) (k : ℕ) (h : 3 ≤ k) (i : k < length vs) where
   abbrev G : List (List ℕ)
@@ -71,7 +71,7 @@ module _ (at ents vs rank : List ℕ) (A : Fitted at ents vs rank) (k : ℕ) (h 
       next-ready =
           subst⁻¹ (λ (a : ℕ). Ready a p m ys off cover left right) v-is
           (subst⁻¹ (λ (a : ℕ). Ready (post vs (k + 1)) a m ys off cover left right) p-is
-          (ready G t (post vs (k + 1)) s K n ys off cover left right (H .shows) (H .room) names v-below few m m-is))
+          (over-ready G t (post vs (k + 1)) s K n ys off cover left right (H .shows) (H .room) names v-below few m m-is))
 
       pub next-holds : (ys' off' cover' left' right' : List ℕ) → Over v p m ys off cover left right ys' off' cover' left' right'
           → Holds at ents vs (k + 1) ys' off' cover' left' right'

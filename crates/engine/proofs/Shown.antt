@@ -24,7 +24,8 @@ halves : (xp yp xq yq f d h xv yv : ℕ) → xp + f ≡ xq + 2 → xp + yp ≤ x
     → 2 * xv + yp ≡ xp + (xq + 2) + yq → 2 * yv + xp ≡ xq + 2 + yq + yp → (xv ≡ xp + d) × (yv ≡ h) × (d ≤ f) × (yp ≤ f + yq)
 halves xp yp xq yq f d h xv yv e1 e2 e3 e4 e5 e6 e7 = omega arith
 
-module _ (G : List (List ℕ)) (t : Stage) (v : ℕ) (s : Step G t v) (K : Kept t) (n : ℕ) (ys off cover left right : List ℕ) (S : Shows t ys off cover left right) (W : Room n ys off cover left right)
+module _ (G : List (List ℕ)) (t : Stage) (v : ℕ) (s : Step G t v) (K : Kept t) (n : ℕ) (ys off cover left right : List ℕ)
+    (S : Shows t ys off cover left right) (W : Room n ys off cover left right)
     (names : (a : ℕ) → In a (t .placed) → a < n) (below : v < n) (few : length (t .placed) ≤ limit) (m : ℕ) (em : m ≡ length (s .M) + 2) where
   abbrev t' : Stage
   t' = place G t v
@@ -81,7 +82,8 @@ module _ (G : List (List ℕ)) (t : Stage) (v : ℕ) (s : Step G t v) (K : Kept 
   on-in a h = on-run a (inr (in-left a M (q ∷ []) h))
 
   once-in : Once M
-  once-in = once-split M (q ∷ s .Y) (once-drop (s .X ++ p ∷ []) (M ++ q ∷ s .Y) (subst⁻¹ Once (append-assoc (s .X) (p ∷ []) (M ++ q ∷ s .Y)) (subst Once (s .before) (s .once)))) .0
+  once-in = once-split M (q ∷ s .Y) (once-drop (s .X ++ p ∷ []) (M ++ q ∷ s .Y)
+      (subst⁻¹ Once (append-assoc (s .X) (p ∷ []) (M ++ q ∷ s .Y)) (subst Once (s .before) (s .once)))) .0
 
   end-is : runEnd right p m ≡ q
   end-is = walk-last right p M q m em rights
@@ -95,7 +97,7 @@ module _ (G : List (List ℕ)) (t : Stage) (v : ℕ) (s : Step G t v) (K : Kept 
   abbrev d : ℕ
   d = newOff ys off right p m
 
-  far-is : t .x p + farAt right off p m ≡ t .x q + 2
+  far-is : t .x p + far ≡ t .x q + 2
   far-is =
       let e : along off (path right (getD right p 0) (m - 1)) ≡ along off (M ++ q ∷ []) = ap (along off) (path-but-first right p M q m em rights) in
       let f : t .x p + along off (M ++ q ∷ []) ≡ t .x q = along-list (t .x) off p (M ++ q ∷ []) aparts ∙ ap (t .x) (last-append p M q []) in
@@ -114,11 +116,11 @@ module _ (G : List (List ℕ)) (t : Stage) (v : ℕ) (s : Step G t v) (K : Kept 
   yq-is = rw end-is (S .height q hq)
 
   record Facts : Type 0 where
-    xv : t' .x v ≡ t .x p + newOff ys off right p m
+    xv : t' .x v ≡ t .x p + d
     yv : t' .y v ≡ newHeight ys off right p m
-    most : newOff ys off right p m ≤ farAt right off p m
-    low : t .y p ≤ farAt right off p m + t .y q
-    far-small : farAt right off p m + 2 ≤ 2 * limit
+    most : d ≤ far
+    low : t .y p ≤ far + t .y q
+    far-small : far + 2 ≤ 2 * limit
     yp-small : t .y p + 4 ≤ 2 * limit
     yq-small : t .y q + 4 ≤ 2 * limit
 
@@ -127,8 +129,9 @@ module _ (G : List (List ℕ)) (t : Stage) (v : ℕ) (s : Step G t v) (K : Kept 
       let o = N .one in
       let yp' = o .height p hp in
       let yq' = o .height q hq in
-      let r = halves (t .x p) (t .y p) (t .x q) (t .y q) (farAt right off p m) (newOff ys off right p m) (newHeight ys off right p m) (t' .x v) (t' .y v) far-is (N .up) (N .down)
-      (rw (yp-is, yq-is) refl) (rw (yp-is, yq-is) refl) (omega (arith, o .exact-x, o .left-stays, o .right-moves)) (omega (arith, o .exact-y, o .left-stays, o .right-moves)) in
+      let r = halves (t .x p) (t .y p) (t .x q) (t .y q) far d (newHeight ys off right p m) (t' .x v) (t' .y v) far-is (N .up) (N .down)
+      (rw (yp-is, yq-is) refl) (rw (yp-is, yq-is) refl) (omega (arith, o .exact-x, o .left-stays, o .right-moves))
+      (omega (arith, o .exact-y, o .left-stays, o .right-moves)) in
       record {
         xv = r .0;
         yv = r .1;
@@ -142,8 +145,8 @@ module _ (G : List (List ℕ)) (t : Stage) (v : ℕ) (s : Step G t v) (K : Kept 
   inner-below : (k : ℕ) → n ≤ k → Below k (innerAt right p m)
   inner-below k h = rw inner-is (below-all k M (λ a i. omega (arith, names a (on-in a i))))
 
-  pub ready : Ready v p m ys off cover left right
-  ready =
+  pub over-ready : Ready v p m ys off cover left right
+  over-ready =
       let F = facts in
       record {
         spans =
@@ -171,15 +174,16 @@ module _ (G : List (List ℕ)) (t : Stage) (v : ℕ) (s : Step G t v) (K : Kept 
         in-cover = inner-below (length cover) (W .of-cover);
         off-fits = omega (arith, F .most, F .far-small);
         off-far = F .most;
-        fits = rw inner-is (fits-list (t .x) (t .x p) (newOff ys off right p m) (2 * limit) (omega arith) off p 1 M once-in apart-in (omega arith) (λ a i. omega (arith, N .within a (on-in a i))));
+        fits = rw inner-is (fits-list (t .x) (t .x p) d (2 * limit) (omega arith) off p 1 M once-in apart-in (omega arith)
+            (λ a i. omega (arith, N .within a (on-in a i))));
       }
 
   -- ---- the arrays after it
   module _ (ys' off' cover' left' right' : List ℕ) (O : Over v p m ys off cover left right ys' off' cover' left' right') where
     abbrev H : List ℕ
-    H = hung off M 1 (newOff ys off right p m)
+    H = hung off M 1 d
 
-    off-is : off' ≡ set (set (hung off M 1 (newOff ys off right p m)) v (newOff ys off right p m)) q (farAt right off p m - newOff ys off right p m)
+    off-is : off' ≡ set (set H v d) q (far - d)
     off-is = O .off-is ∙ rw (inner-is, end-is) refl
 
     cover-is : cover' ≡ set (covered cover M v) v v
@@ -201,9 +205,9 @@ module _ (G : List (List ℕ)) (t : Stage) (v : ℕ) (s : Step G t v) (K : Kept 
     changed =
         let F = facts in
         let o = N .one in
-        let h-off = hung-length (t .x) off M 1 (newOff ys off right p m) in
-        let small : newOff ys off right p m ≤ bias = omega (arith, F .most, F .far-small) in
-        let l-off : v < length (hung off M 1 (newOff ys off right p m)) = omega (arith, W .of-off) in
+        let h-off = hung-length (t .x) off M 1 d in
+        let small : d ≤ bias = omega (arith, F .most, F .far-small) in
+        let l-off : v < length H = omega (arith, W .of-off) in
         let l-cover : v < length (covered cover M v) = omega (arith, covered-length cover M v, W .of-cover) in
         record {
           ys-new = rw (O .ys-is, getD-set-same ys v (newHeight ys off right p m) 0 (omega (arith, W .of-ys))) (sym (F .yv));
@@ -212,10 +216,17 @@ module _ (G : List (List ℕ)) (t : Stage) (v : ℕ) (s : Step G t v) (K : Kept 
           off-right = let e = at-q (omega (arith, names q hq, W .of-off, h-off)) in omega (arith, F .xv, F .most, far-is, o .right-moves);
           off-in = λ u i.
               let e = at-old u (λ a. old u i a) (λ a. not-q u i a) in
-              omega (arith, hung-at (t .x) (t .x p) (newOff ys off right p m) small off p 1 M once-in (below-all (length off) M (λ a j. omega (arith, names a (on-in a j), W .of-off))) apart-in (omega arith) u i, N .by-one u i, F .xv);
-          off-old = λ u a b i. at-old u a b ∙ hung-off (t .x) off M 1 (newOff ys off right p m) u i;
+              omega (
+                arith,
+                hung-at (t .x) (t .x p) d small off p 1 M once-in
+                    (below-all (length off) M (λ a j. omega (arith, names a (on-in a j), W .of-off))) apart-in (omega arith) u i,
+                N .by-one u i,
+                F .xv,
+              );
+          off-old = λ u a b i. at-old u a b ∙ hung-off (t .x) off M 1 d u i;
           cover-new = rw (cover-is, getD-set-same (covered cover M v) v v 0 l-cover) refl;
-          cover-in = λ u i. rw (cover-is, getD-set-other (covered cover M v) v u v 0 (λ a. old u i a)) (covered-at cover M v u once-in (below-all (length cover) M (λ a j. omega (arith, names a (on-in a j), W .of-cover))) i);
+          cover-in = λ u i. rw (cover-is, getD-set-other (covered cover M v) v u v 0 (λ a. old u i a))
+              (covered-at cover M v u once-in (below-all (length cover) M (λ a j. omega (arith, names a (on-in a j), W .of-cover))) i);
           cover-old = λ u a i. rw (cover-is, getD-set-other (covered cover M v) v u v 0 a) (covered-off cover M v u i);
           left-new = rw (left-is, getD-set-other (set left v p) q v v 0 vq, getD-set-same left v p 0 (omega (arith, W .of-left))) refl;
           left-right = rw (left-is, getD-set-same (set left v p) q v 0 (omega (arith, names q hq, W .of-left, length-set left v p))) refl;
@@ -231,17 +242,14 @@ module _ (G : List (List ℕ)) (t : Stage) (v : ℕ) (s : Step G t v) (K : Kept 
         not-q : (u : ℕ) → In u M → ¬ (u ≡ q)
         not-q u i e = right-not G t v s K q (inl refl) .2 (rw e at i)
 
-        at-v : v < length (hung off M 1 (newOff ys off right p m)) → getD off' v 0 ≡ newOff ys off right p m
-        at-v h = rw (off-is, getD-set-other (set (hung off M 1 (newOff ys off right p m)) v (newOff ys off right p m)) q v (farAt right off p m - newOff ys off right p m) 0 vq)
-            (getD-set-same (hung off M 1 (newOff ys off right p m)) v (newOff ys off right p m) 0 h)
+        at-v : v < length H → getD off' v 0 ≡ d
+        at-v h = rw (off-is, getD-set-other (set H v d) q v (far - d) 0 vq) (getD-set-same H v d 0 h)
 
-        at-q : q < length (hung off M 1 (newOff ys off right p m)) → getD off' q 0 ≡ farAt right off p m - newOff ys off right p m
-        at-q h = rw off-is (getD-set-same (set (hung off M 1 (newOff ys off right p m)) v (newOff ys off right p m)) q (farAt right off p m - newOff ys off right p m) 0
-            (omega (arith, length-set (hung off M 1 (newOff ys off right p m)) v (newOff ys off right p m))))
+        at-q : q < length H → getD off' q 0 ≡ far - d
+        at-q h = rw off-is (getD-set-same (set H v d) q (far - d) 0 (omega (arith, length-set H v d)))
 
-        at-old : (u : ℕ) → ¬ (u ≡ v) → ¬ (u ≡ q) → getD off' u 0 ≡ getD (hung off M 1 (newOff ys off right p m)) u 0
-        at-old u a b = rw (off-is, getD-set-other (set (hung off M 1 (newOff ys off right p m)) v (newOff ys off right p m)) q u (farAt right off p m - newOff ys off right p m) 0 b)
-            (getD-set-other (hung off M 1 (newOff ys off right p m)) v u (newOff ys off right p m) 0 a)
+        at-old : (u : ℕ) → ¬ (u ≡ v) → ¬ (u ≡ q) → getD off' u 0 ≡ getD H u 0
+        at-old u a b = rw (off-is, getD-set-other (set H v d) q u (far - d) 0 b) (getD-set-other H v u d 0 a)
 
     pub shown : Shows t' ys' off' cover' left' right'
     shown = shows-next G t v s K ys off cover left right ys' off' cover' left' right' S changed
@@ -250,7 +258,7 @@ module _ (G : List (List ℕ)) (t : Stage) (v : ℕ) (s : Step G t v) (K : Kept 
     roomy =
         record {
           of-ys = let e : length ys' ≡ length ys = rw (O .ys-is) (simp length-set) in omega (arith, W .of-ys);
-          of-off = let e : length off' ≡ length off = rw off-is (simp length-set (hung-length (t .x) off M 1 (newOff ys off right p m))) in omega (arith, W .of-off);
+          of-off = let e : length off' ≡ length off = rw off-is (simp length-set (hung-length (t .x) off M 1 d)) in omega (arith, W .of-off);
           of-cover = let e : length cover' ≡ length cover = rw cover-is (simp length-set (covered-length cover M v)) in omega (arith, W .of-cover);
           of-left = let e : length left' ≡ length left = rw left-is (simp length-set) in omega (arith, W .of-left);
           of-right = let e : length right' ≡ length right = rw right-is (simp length-set) in omega (arith, W .of-right);

@@ -97,9 +97,11 @@ module _ (G : List (List ℕ)) (t : Stage) (v : ℕ) (s : Step G t v) (K : Kept 
   before-not a h e = once-split X (p ∷ []) (once-split (X ++ p ∷ []) (M ++ q ∷ Y) cut .0) .1 a h (inl e)
 
   -- two neighbours on the new contour
-  neighbours : {C : Type 0} (a b : ℕ) → (Adj (X ++ p ∷ []) a b → C) → (p ≡ a → v ≡ b → C) → (v ≡ a → q ≡ b → C) → (Adj (q ∷ Y) a b → C) → Adj (t' .contour) a b → C
+  neighbours : {C : Type 0} (a b : ℕ) → (Adj (X ++ p ∷ []) a b → C) → (p ≡ a → v ≡ b → C) → (v ≡ a → q ≡ b → C) → (Adj (q ∷ Y) a b → C)
+      → Adj (t' .contour) a b → C
   neighbours a b f g h k j =
-      adj-cases a b X p (v ∷ q ∷ Y) f (elim [ inl e ↦ g (e .0) (e .1) | inr (inl e) ↦ h (e .0) (e .1) | inr (inr i) ↦ k i ]) (subst (λ (l : List ℕ). Adj l a b) (s .after) j)
+      adj-cases a b X p (v ∷ q ∷ Y) f (elim [ inl e ↦ g (e .0) (e .1) | inr (inl e) ↦ h (e .0) (e .1) | inr (inr i) ↦ k i ])
+      (subst (λ (l : List ℕ). Adj l a b) (s .after) j)
 
   was-left : (a b : ℕ) → Adj (X ++ p ∷ []) a b → Adj (t .contour) a b
   was-left a b h = rw (s .before) (adj-left a b X p (M ++ q ∷ Y) h)
@@ -108,7 +110,8 @@ module _ (G : List (List ℕ)) (t : Stage) (v : ℕ) (s : Step G t v) (K : Kept 
   was-right a b h = rw (s .before) (adj-right a b X (p ∷ (M ++ q ∷ Y)) (inr (adj-right a b M (q ∷ Y) h)))
 
   second-kept : post (t' .placed) 2 ≡ post (t .placed) 2
-  second-kept = ap (λ (l : List ℕ). post l 2) (place-placed G t v) ∙ List·getD-append (t .placed) (v ∷ []) 0 1 (two (t .placed) (s .on-placed p (on-left p p-in)) (s .on-placed q (on-right q (inl refl))))
+  second-kept = ap (λ (l : List ℕ). post l 2) (place-placed G t v) ∙ List·getD-append (t .placed) (v ∷ []) 0 1
+      (two (t .placed) (s .on-placed p (on-left p p-in)) (s .on-placed q (on-right q (inl refl))))
     where
       two : (l : List ℕ) → In p l → In q l → 1 < length l
       two [] h i = absurd h
@@ -123,13 +126,15 @@ module _ (G : List (List ℕ)) (t : Stage) (v : ℕ) (s : Step G t v) (K : Kept 
       let e : lastOf v1 (X ++ p ∷ (M ++ q ∷ Y)) ≡ post (t .placed) 2 = ap (lastOf v1) (sym (s .before)) ∙ s .old .last in
       subst (λ (a : ℕ). In a (q ∷ Y)) (sym (last-append v1 X p (M ++ q ∷ Y) ∙ last-append p M q Y) ∙ e) (last-in q Y)
 
-  module _ (ys off cover left right ys' off' cover' left' right' : List ℕ) (S : Shows t ys off cover left right) (N : Changed t' v p M q ys off cover left right ys' off' cover' left' right') where
+  module _ (ys off cover left right ys' off' cover' left' right' : List ℕ) (S : Shows t ys off cover left right)
+      (N : Changed t' v p M q ys off cover left right ys' off' cover' left' right') where
     abbrev m : StepMoves G t v s
     m = moves G t v s K
 
     height : (u : ℕ) → In u (t' .placed) → getD ys' u 0 ≡ t' .y u
     height u h =
-        in-cases u (t .placed) (v ∷ []) (λ i. N .ys-old u (old u i) ∙ S .height u i ∙ sym (m .one .height u i)) (elim [ inl e ↦ rw e (N .ys-new) | inr z ↦ absurd z ])
+        in-cases u (t .placed) (v ∷ []) (λ i. N .ys-old u (old u i) ∙ S .height u i ∙ sym (m .one .height u i))
+        (elim [ inl e ↦ rw e (N .ys-new) | inr z ↦ absurd z ])
         (subst (In u) (place-placed G t v) h)
 
     apart : (a b : ℕ) → Adj (t' .contour) a b → t' .x b ≡ t' .x a + getD off' b 0
@@ -144,10 +149,17 @@ module _ (G : List (List ℕ)) (t : Stage) (v : ℕ) (s : Step G t v) (K : Kept 
         (λ h.
         let i = adj-tail a b q Y h in
         let n = right-not b (inr i) in
-        omega (arith, S .apart a b (was-right a b h), N .off-old b (n .0) (beyond-not b i) (n .2), m .by-two b (inr i), m .by-two a (adj-in-left a b (q ∷ Y) h)))
+        omega (
+          arith,
+          S .apart a b (was-right a b h),
+          N .off-old b (n .0) (beyond-not b i) (n .2),
+          m .by-two b (inr i),
+          m .by-two a (adj-in-left a b (q ∷ Y) h),
+        ))
 
     from-none : getD off' (post (t' .placed) 1) 0 ≡ 0
-    from-none = let n = left-not (post (t .placed) 1) (first-on G t v s K) in rw (first-kept G t v s K) (N .off-old (post (t .placed) 1) (n .0) (n .1) (n .2) ∙ S .from-none)
+    from-none = let n = left-not (post (t .placed) 1) (first-on G t v s K) in
+        rw (first-kept G t v s K) (N .off-old (post (t .placed) 1) (n .0) (n .1) (n .2) ∙ S .from-none)
 
     left-is : (a b : ℕ) → Adj (t' .contour) a b → getD left' b 0 ≡ a
     left-is a b =

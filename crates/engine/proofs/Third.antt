@@ -22,39 +22,39 @@ module _ (v1 v2 v3 : ℕ) (d12 : v1 ≢ v2) (d13 : v1 ≢ v3) (d23 : v2 ≢ v3) 
   Set3 l x y z = set (set (set l v1 x) v2 y) v3 z
 
   module _ (l : List ℕ) (x y z : ℕ) (h1 : v1 < length l) (h2 : v2 < length l) (h3 : v3 < length l) where
-    at1 : getD (set (set (set l v1 x) v2 y) v3 z) v1 0 ≡ x
+    at1 : getD (Set3 l x y z) v1 0 ≡ x
     at1 = getD-set-other (set (set l v1 x) v2 y) v3 v1 z 0 d13 ∙ getD-set-other (set l v1 x) v2 v1 y 0 d12 ∙ getD-set-same l v1 x 0 h1
 
-    at2 : getD (set (set (set l v1 x) v2 y) v3 z) v2 0 ≡ y
+    at2 : getD (Set3 l x y z) v2 0 ≡ y
     at2 = getD-set-other (set (set l v1 x) v2 y) v3 v2 z 0 d23 ∙ getD-set-same (set l v1 x) v2 y 0 (rw (length-set l v1 x) h2)
 
-    at3 : getD (set (set (set l v1 x) v2 y) v3 z) v3 0 ≡ z
+    at3 : getD (Set3 l x y z) v3 0 ≡ z
     at3 = getD-set-same (set (set l v1 x) v2 y) v3 z 0 (simp length-set h3)
 
   abbrev t : Stage
   t = third v1 v2 v3
 
-  x1 : third v1 v2 v3 .x v1 ≡ 0
+  x1 : t .x v1 ≡ 0
   unfolding third
   x1 = rw (eqb-other v1 v3 d13, eqb-other v1 v2 d12) refl
 
-  x2 : third v1 v2 v3 .x v2 ≡ 2
+  x2 : t .x v2 ≡ 2
   unfolding third
   x2 = rw (eqb-other v2 v3 d23, eqb-same v2) refl
 
-  x3 : third v1 v2 v3 .x v3 ≡ 1
+  x3 : t .x v3 ≡ 1
   unfolding third
   x3 = rw (eqb-same v3) refl
 
-  y1 : third v1 v2 v3 .y v1 ≡ 0
+  y1 : t .y v1 ≡ 0
   unfolding third
   y1 = rw (eqb-other v1 v3 d13) refl
 
-  y2 : third v1 v2 v3 .y v2 ≡ 0
+  y2 : t .y v2 ≡ 0
   unfolding third
   y2 = rw (eqb-other v2 v3 d23) refl
 
-  y3 : third v1 v2 v3 .y v3 ≡ 1
+  y3 : t .y v3 ≡ 1
   unfolding third
   y3 = rw (eqb-same v3) refl
 
@@ -71,7 +71,7 @@ module _ (v1 v2 v3 : ℕ) (d12 : v1 ≢ v2) (d13 : v1 ≢ v3) (d23 : v2 ≢ v3) 
   on u (inr (inr (inr z))) = absurd z
 
   module _ (n : ℕ) (ys off cover left right : List ℕ) (W : Room n ys off cover left right) (b1 : v1 < n) (b2 : v2 < n) (b3 : v3 < n) where
-    pub third-shows : Shows (third v1 v2 v3) (Set3 ys 0 0 1) (Set3 off 0 1 1) (Set3 cover v1 v2 v3) (Set3 left v1 v3 v1) (Set3 right v3 v2 v2)
+    pub third-shows : Shows t (Set3 ys 0 0 1) (Set3 off 0 1 1) (Set3 cover v1 v2 v3) (Set3 left v1 v3 v1) (Set3 right v3 v2 v2)
     unfolding third
     third-shows =
         record {
@@ -79,8 +79,10 @@ module _ (v1 v2 v3 : ℕ) (d12 : v1 ≢ v2) (d13 : v1 ≢ v3) (d23 : v2 ≢ v3) 
           apart = λ a b. by-adj a b (λ e f. rw (← e, ← f) (omega (arith, x1, x3, at3 off 0 1 1 (omega (arith, W)) (omega (arith, W)) (omega (arith, W)))))
               (λ e f. rw (← e, ← f) (omega (arith, x2, x3, at2 off 0 1 1 (omega (arith, W)) (omega (arith, W)) (omega (arith, W)))));
           from-none = at1 off 0 1 1 (omega (arith, W)) (omega (arith, W)) (omega (arith, W));
-          left-is = λ a b. by-adj a b (λ e f. rw (← e, ← f) (at3 left v1 v3 v1 (omega (arith, W)) (omega (arith, W)) (omega (arith, W)))) (λ e f. rw (← e, ← f) (at2 left v1 v3 v1 (omega (arith, W)) (omega (arith, W)) (omega (arith, W))));
-          right-is = λ a b. by-adj a b (λ e f. rw (← e, ← f) (at1 right v3 v2 v2 (omega (arith, W)) (omega (arith, W)) (omega (arith, W)))) (λ e f. rw (← e, ← f) (at3 right v3 v2 v2 (omega (arith, W)) (omega (arith, W)) (omega (arith, W))));
+          left-is = λ a b. by-adj a b (λ e f. rw (← e, ← f) (at3 left v1 v3 v1 (omega (arith, W)) (omega (arith, W)) (omega (arith, W))))
+              (λ e f. rw (← e, ← f) (at2 left v1 v3 v1 (omega (arith, W)) (omega (arith, W)) (omega (arith, W))));
+          right-is = λ a b. by-adj a b (λ e f. rw (← e, ← f) (at1 right v3 v2 v2 (omega (arith, W)) (omega (arith, W)) (omega (arith, W))))
+              (λ e f. rw (← e, ← f) (at3 right v3 v2 v2 (omega (arith, W)) (omega (arith, W)) (omega (arith, W))));
           first = at1 left v1 v3 v1 (omega (arith, W)) (omega (arith, W)) (omega (arith, W));
           last = at2 right v3 v2 v2 (omega (arith, W)) (omega (arith, W)) (omega (arith, W));
           bare = bare;
@@ -88,7 +90,7 @@ module _ (v1 v2 v3 : ℕ) (d12 : v1 ≢ v2) (d13 : v1 ≢ v3) (d23 : v2 ≢ v3) 
           hangs = λ u h m. absurd (m (on u h));
         }
       where
-        height : (u : ℕ) → In u (v1 ∷ v2 ∷ v3 ∷ []) → getD (Set3 ys 0 0 1) u 0 ≡ third v1 v2 v3 .y u
+        height : (u : ℕ) → In u (v1 ∷ v2 ∷ v3 ∷ []) → getD (Set3 ys 0 0 1) u 0 ≡ t .y u
         height u (inl e) = rw e (at1 ys 0 0 1 (omega (arith, W)) (omega (arith, W)) (omega (arith, W)) ∙ sym y1)
         height u (inr (inl e)) = rw e (at2 ys 0 0 1 (omega (arith, W)) (omega (arith, W)) (omega (arith, W)) ∙ sym y2)
         height u (inr (inr (inl e))) = rw e (at3 ys 0 0 1 (omega (arith, W)) (omega (arith, W)) (omega (arith, W)) ∙ sym y3)
@@ -105,7 +107,8 @@ pub start-shows : (v1 v2 v3 : ℕ) (ys off cover left right ys' off' cover' left
     → ys' ≡ set (set (set ys v1 0) v2 0) v3 1 → off' ≡ set (set (set off v1 0) v2 1) v3 1 → cover' ≡ set (set (set cover v1 v1) v2 v2) v3 v3
     → left' ≡ set (set (set left v1 v1) v2 v3) v3 v1 → right' ≡ set (set (set right v1 v3) v2 v2) v3 v2 → Shows (third v1 v2 v3) ys' off' cover' left' right'
 start-shows v1 v2 v3 ys off cover left right ys' off' cover' left' right' C e1 e2 e3 e4 e5 =
-    rw (e1, e2, e3, e4, e5) (third-shows v1 v2 v3 (C .apart12) (C .apart13) (C .apart23) (C .n) ys off cover left right (C .room) (C .below1) (C .below2) (C .below3))
+    rw (e1, e2, e3, e4, e5) (third-shows v1 v2 v3 (C .apart12) (C .apart13) (C .apart23) (C .n) ys off cover left right (C .room)
+    (C .below1) (C .below2) (C .below3))
 
 -- ---- of a list that fits so far
 module _ (at ents vs rank ys off cover left right : List ℕ) (A : Fitted at ents vs rank) (W : Room (length (held at ents)) ys off cover left right) where
@@ -130,5 +133,11 @@ module _ (at ents vs rank ys off cover left right : List ℕ) (A : Fitted at ent
   third-holds ys' off' cover' left' right' S e1 e2 e3 e4 e5 =
       record {
         shows = subst⁻¹ (λ (s : Stage). Shows s ys' off' cover' left' right') (stage-third (held at ents) vs (A .three)) S;
-        room = record { of-ys = omega (arith, W); of-off = omega (arith, W); of-cover = omega (arith, W); of-left = omega (arith, W); of-right = omega (arith, W) };
+        room = record {
+          of-ys = omega (arith, W);
+          of-off = omega (arith, W);
+          of-cover = omega (arith, W);
+          of-left = omega (arith, W);
+          of-right = omega (arith, W);
+        };
       }

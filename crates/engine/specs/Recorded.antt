@@ -12,5 +12,9 @@ use Rattle.order.specs.Opens.{before}
 abbrev pub recordBy : (rank : List ℕ) → ℕ → (xs ys cover left right : List ℕ) → ℕ → Record
 recordBy rank k xs ys cover left right u =
     cond (before rank (k + 1) u)
-    (record { x = getD xs u 0; y = getD ys u 0; standing = cond (eqb (getD cover u 0) u) (OnContour (getD left u 0) (getD right u 0)) (Covered (getD cover u 0)) })
+    (record {
+      x = getD xs u 0;
+      y = getD ys u 0;
+      standing = cond (eqb (getD cover u 0) u) (OnContour (getD left u 0) (getD right u 0)) (Covered (getD cover u 0));
+    })
     (record { x = 0; y = 0; standing = Waiting })

@@ -27,8 +27,10 @@ pub fn place_next(
     left: &mut [u16],
     right: &mut [u16],
 )
-    requires { ⌜ Fitted (now at) (now ents) (now vs) (now rank) × (3 ≤ k) × (k < length (now vs)) × Holds (now at) (now ents) (now vs) k (now ys) (now off) (now cover) (now left) (now right) ⌝ }
-    ensures { λ r. ⌜ Holds (now (at .entry)) (now (ents .entry)) (now (vs .entry)) (k + 1) (now (ys .exit)) (now (off .exit)) (now (cover .exit)) (now (left .exit)) (now (right .exit)) ⌝ }
+    requires { ⌜ Fitted (now at) (now ents) (now vs) (now rank) × (3 ≤ k) × (k < length (now vs))
+        × Holds (now at) (now ents) (now vs) k (now ys) (now off) (now cover) (now left) (now right) ⌝ }
+    ensures { λ r. ⌜ Holds (now (at .entry)) (now (ents .entry)) (now (vs .entry)) (k + 1)
+        (now (ys .exit)) (now (off .exit)) (now (cover .exit)) (now (left .exit)) (now (right .exit)) ⌝ }
 {
     let run = order::next_run(at, ents, vs, rank, k);
     contour::place_over(vs[k], run.first, run.many, ys, off, cover, left, right);
@@ -68,8 +70,10 @@ pub fn reach(
     left: &mut [u16],
     right: &mut [u16],
 )
-    requires { ⌜ Fitted (now at) (now ents) (now vs) (now rank) × (3 ≤ k) × (k ≤ length (now vs)) × Room (length (held (now at) (now ents))) (now ys) (now off) (now cover) (now left) (now right) ⌝ }
-    ensures { λ r. ⌜ Holds (now (at .entry)) (now (ents .entry)) (now (vs .entry)) k (now (ys .exit)) (now (off .exit)) (now (cover .exit)) (now (left .exit)) (now (right .exit)) ⌝ }
+    requires { ⌜ Fitted (now at) (now ents) (now vs) (now rank) × (3 ≤ k) × (k ≤ length (now vs))
+        × Room (length (held (now at) (now ents))) (now ys) (now off) (now cover) (now left) (now right) ⌝ }
+    ensures { λ r. ⌜ Holds (now (at .entry)) (now (ents .entry)) (now (vs .entry)) k
+        (now (ys .exit)) (now (off .exit)) (now (cover .exit)) (now (left .exit)) (now (right .exit)) ⌝ }
 {
     start(vs[0], vs[1], vs[2], ys, off, cover, left, right);
     let mut i = 3;
@@ -102,8 +106,11 @@ pub fn draw(
     right: &mut [u16],
     xs: &mut [u16],
 )
-    requires { ⌜ Fitted (now at) (now ents) (now vs) (now rank) × (3 ≤ k) × (k ≤ length (now vs)) × Room (length (held (now at) (now ents))) (now ys) (now off) (now cover) (now left) (now right) × (length (held (now at) (now ents)) ≤ length (now xs)) ⌝ }
-    ensures { λ r. ⌜ Columned (now (at .entry)) (now (ents .entry)) (now (vs .entry)) k (now (ys .exit)) (now (off .exit)) (now (cover .exit)) (now (left .exit)) (now (right .exit)) (now (xs .exit)) ⌝ }
+    requires { ⌜ Fitted (now at) (now ents) (now vs) (now rank) × (3 ≤ k) × (k ≤ length (now vs))
+        × Room (length (held (now at) (now ents))) (now ys) (now off) (now cover) (now left) (now right)
+        × (length (held (now at) (now ents)) ≤ length (now xs)) ⌝ }
+    ensures { λ r. ⌜ Columned (now (at .entry)) (now (ents .entry)) (now (vs .entry)) k
+        (now (ys .exit)) (now (off .exit)) (now (cover .exit)) (now (left .exit)) (now (right .exit)) (now (xs .exit)) ⌝ }
 {
     reach(at, ents, vs, rank, k, ys, off, cover, left, right);
     columns(vs, off, cover, right, xs, k);
@@ -124,8 +131,11 @@ pub fn sheet_at(
     xs: &mut [u16],
     buffer: &mut [u16],
 )
-    requires { ⌜ Fitted (now at) (now ents) (now vs) (now rank) × (3 ≤ k) × (k ≤ length (now vs)) × Room (length (held (now at) (now ents))) (now ys) (now off) (now cover) (now left) (now right) × (length (held (now at) (now ents)) ≤ length (now xs)) × (2 * k ≤ length (now buffer)) ⌝ }
-    ensures { λ r. ⌜ now (buffer .exit) ≡ entriesOf (stage (held (now (at .entry)) (now (ents .entry))) (take k (now (vs .entry)))) ++ drop (2 * k) (now (buffer .entry)) ⌝ }
+    requires { ⌜ Fitted (now at) (now ents) (now vs) (now rank) × (3 ≤ k) × (k ≤ length (now vs))
+        × Room (length (held (now at) (now ents))) (now ys) (now off) (now cover) (now left) (now right)
+        × (length (held (now at) (now ents)) ≤ length (now xs)) × (2 * k ≤ length (now buffer)) ⌝ }
+    ensures { λ r. ⌜ now (buffer .exit) ≡ entriesOf (stage (held (now (at .entry)) (now (ents .entry))) (take k (now (vs .entry))))
+        ++ drop (2 * k) (now (buffer .entry)) ⌝ }
 {
     draw(at, ents, vs, rank, k, ys, off, cover, left, right, xs);
     placing::write_sheet(vs, k, xs, ys, buffer);
@@ -142,7 +152,8 @@ fn record_at(
     right: &[u16],
     u: u16,
 ) -> Record
-    requires { ⌜ (k ≤ limit) × (u < length (now rank)) × (u < length (now xs)) × (u < length (now ys)) × (u < length (now cover)) × (u < length (now left)) × (u < length (now right)) ⌝ }
+    requires { ⌜ (k ≤ limit) × (u < length (now rank)) × (u < length (now xs)) × (u < length (now ys)) × (u < length (now cover)) × (u < length (now left))
+        × (u < length (now right)) ⌝ }
     ensures { λ r. ⌜ r ≡ recordBy (now (rank .entry)) k (now (xs .entry)) (now (ys .entry)) (now (cover .entry)) (now (left .entry)) (now (right .entry)) u ⌝ }
 {
     if !order::is_before(rank, u, k + 1) {
@@ -183,7 +194,9 @@ pub fn post_at(
     right: &mut [u16],
     xs: &mut [u16],
 ) -> Record
-    requires { ⌜ Fitted (now at) (now ents) (now vs) (now rank) × (3 ≤ k) × (k ≤ length (now vs)) × Room (length (held (now at) (now ents))) (now ys) (now off) (now cover) (now left) (now right) × (length (held (now at) (now ents)) ≤ length (now xs)) × (u < length (held (now at) (now ents))) ⌝ }
+    requires { ⌜ Fitted (now at) (now ents) (now vs) (now rank) × (3 ≤ k) × (k ≤ length (now vs))
+        × Room (length (held (now at) (now ents))) (now ys) (now off) (now cover) (now left) (now right)
+        × (length (held (now at) (now ents)) ≤ length (now xs)) × (u < length (held (now at) (now ents))) ⌝ }
     ensures { λ r. ⌜ r ≡ recordOf (stage (held (now (at .entry)) (now (ents .entry))) (take k (now (vs .entry)))) u ⌝ }
 {
     draw(at, ents, vs, rank, k, ys, off, cover, left, right, xs);

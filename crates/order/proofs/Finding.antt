@@ -50,10 +50,12 @@ module _ (placed : List ℕ) where
     where
       go : (r : ℕ) → Dec (In x placed) → Dec (In y placed) → Pair (y ∷ l) r ⊎ ((r ≡ z) × None (y ∷ l))
           → Pair (x ∷ y ∷ l) (cond (not (mem placed x) && mem placed y) y r) ⊎ ((cond (not (mem placed x) && mem placed y) y r ≡ z) × None (x ∷ y ∷ l))
-      go r (no n) (yes j) t = rw (is-false (mem placed x) (λ t. n (mem-in placed x t)), is-true (mem placed y) (in-mem placed y j)) (inl (x, inl (refl, refl), n, j))
+      go r (no n) (yes j) t =
+          rw (is-false (mem placed x) (λ t. n (mem-in placed x t)), is-true (mem placed y) (in-mem placed y j)) (inl (x, inl (refl, refl), n, j))
       go r (yes i) d (inl t) = rw (is-true (mem placed x) (in-mem placed x i)) (inl (t .0, inr (t .1), t .2, t .3))
       go r (yes i) d (inr t) =
-          rw (is-true (mem placed x) (in-mem placed x i)) (inr (t .0, λ b c. elim [ inl h ↦ (λ n. absurd (n (subst (λ (a : ℕ). In a placed) (h .0) i))) | inr h ↦ t .1 b c h ]))
+          rw (is-true (mem placed x) (in-mem placed x i))
+          (inr (t .0, λ b c. elim [ inl h ↦ (λ n. absurd (n (subst (λ (a : ℕ). In a placed) (h .0) i))) | inr h ↦ t .1 b c h ]))
       go r (no n) (no m) (inl t) =
           rw (is-false (mem placed x) (λ t. n (mem-in placed x t)), is-false (mem placed y) (λ t. m (mem-in placed y t))) (inl (t .0, inr (t .1), t .2, t .3))
       go r (no n) (no m) (inr t) =
@@ -203,7 +205,8 @@ module _ (G : List (List ℕ)) (vn : ℕ) (vs : List ℕ) (Q : Plane G (post vs 
         go [] e = absurd (subst (In (grown .p)) e near)
         go (y ∷ l) e = at (opens-says (take k vs) (post vs 1) (lastOf y l) (y ∷ l))
           where
-            at : Pair (take k vs) (lastOf y l ∷ y ∷ l) (opened (y ∷ l) (lastOf y l)) ⊎ ((opened (y ∷ l) (lastOf y l) ≡ post vs 1) × None (take k vs) (lastOf y l ∷ y ∷ l))
+            at : Pair (take k vs) (lastOf y l ∷ y ∷ l) (opened (y ∷ l) (lastOf y l))
+                ⊎ ((opened (y ∷ l) (lastOf y l) ≡ post vs 1) × None (take k vs) (lastOf y l ∷ y ∷ l))
                 → Begins (opened (y ∷ l) (lastOf y l))
             at (inl w) = at-pair (w .0) (opened (y ∷ l) (lastOf y l)) (rw e (around-adj y l (w .0) _ (w .1))) (w .2) (w .3)
             at (inr w) =

@@ -89,7 +89,8 @@ module _ (at ents vs rank : List ℕ) (A : Fitted at ents vs rank) (k : ℕ) (h 
   found : (opens (mem (take k vs)) (post vs 1) (mem (take k vs) (lastOf 0 (slice b e ents))) (slice b e ents) ≡ post the-run 1)
       × (count (mem (take k vs)) (slice b e ents) ≡ length the-run)
   found =
-      subst (λ (l : List ℕ). (opens (mem (take k vs)) (post vs 1) (mem (take k vs) (lastOf 0 l)) l ≡ post the-run 1) × (count (mem (take k vs)) l ≡ length the-run))
+      subst (λ (l : List ℕ). (opens (mem (take k vs)) (post vs 1) (mem (take k vs) (lastOf 0 l)) l ≡ post the-run 1)
+      × (count (mem (take k vs)) l ≡ length the-run))
       ring-is (run-found G (A .vn) vs (A .plane) (A .fits) k h i)
 
   pub first-is : (p : ℕ) → p ≡ opens (before rank (k + 1)) (getD vs 0 0) (before rank (k + 1) (getD ents (e - 1) 0)) (slice b e ents) → p ≡ post the-run 1

@@ -42,7 +42,8 @@ module _ (n : ℕ) (vs rank : List ℕ) (R : RankedBelow n vs rank) (a : ℕ) (h
       go (yes l) =
           lt-ltb (getD rank a 0) k l ∙ sym (is-true (mem (earlier vs k) a) (in-mem (earlier vs k) a (earlier-in vs k a (omega arith) (by-position .1 l))))
       go (no m) =
-          le-ltb (getD rank a 0) k (omega arith) ∙ sym (is-false (mem (earlier vs k) a) (λ t. m (by-position .0 (in-earlier vs k a (mem-in (earlier vs k) a t)))))
+          le-ltb (getD rank a 0) k (omega arith)
+          ∙ sym (is-false (mem (earlier vs k) a) (λ t. m (by-position .0 (in-earlier vs k a (mem-in (earlier vs k) a t)))))
 
 -- a post placed, by its position
 pub placed-by : (n : ℕ) (vs rank : List ℕ) → RankedBelow n vs rank → (k : ℕ) → k ≤ length vs → (a : ℕ) → a < n → mem (take k vs) a ≡ before rank (k + 1) a

@@ -69,7 +69,8 @@ pub fn count_before(ents: &[u16], b: usize, e: usize, vs: &[u16], rank: &[u16], 
 // At place i stands one that is not before position k, and after it one that is.
 fn is_start(ents: &[u16], b: usize, e: usize, i: usize, vs: &[u16], rank: &[u16], k: usize) -> bool
     requires { ⌜ (b ≤ i) × (i < e) × (e ≤ length (now ents)) × RankedEntries (now ents) b e (now vs) (now rank) × (k ≤ length (now vs)) ⌝ }
-    ensures { λ r. ⌜ r ≡ (not (mem (earlier (now (vs .entry)) k) (getD (around (slice b e (now (ents .entry)))) (i - b) 0)) && mem (earlier (now (vs .entry)) k) (getD (around (slice b e (now (ents .entry)))) (i - b + 1) 0)) ⌝ }
+    ensures { λ r. ⌜ r ≡ (not (mem (earlier (now (vs .entry)) k) (getD (around (slice b e (now (ents .entry)))) (i - b) 0))
+        && mem (earlier (now (vs .entry)) k) (getD (around (slice b e (now (ents .entry)))) (i - b + 1) 0)) ⌝ }
 {
     if is_before(rank, ents[i], k) {
         return false;
@@ -94,7 +95,8 @@ fn count_starts(ents: &[u16], b: usize, e: usize, vs: &[u16], rank: &[u16], k: u
 // What the order's rule finds in position k.
 pub fn rule_at(ents: &[u16], at: &[u16], vs: &[u16], rank: &[u16], k: usize) -> Fit
     requires { ⌜ Listed (now at) (now ents) (now vs) (now rank) × (1 ≤ k) × (k ≤ length (now vs)) × (post (now vs) k < length (held (now at) (now ents))) ⌝ }
-    ensures { λ r. ⌜ r ≡ fitOf (twoPlaced (held (now (at .entry)) (now (ents .entry))) (earlier (now (vs .entry)) k) (post (now (vs .entry)) k)) (oneRun (held (now (at .entry)) (now (ents .entry))) (earlier (now (vs .entry)) k) (post (now (vs .entry)) k)) ⌝ }
+    ensures { λ r. ⌜ r ≡ fitOf (twoPlaced (held (now (at .entry)) (now (ents .entry))) (earlier (now (vs .entry)) k) (post (now (vs .entry)) k))
+        (oneRun (held (now (at .entry)) (now (ents .entry))) (earlier (now (vs .entry)) k) (post (now (vs .entry)) k)) ⌝ }
 {
     let v = words::number(vs[k - 1]);
     let b = words::number(at[v]);
@@ -120,7 +122,8 @@ fn is_opening(last: bool, here: bool) -> bool
 // Where a run begins among the entries from b to e, read around: the first one before position k after one that is not; v1 if there is none.
 fn run_begins(ents: &[u16], b: usize, e: usize, rank: &[u16], k: usize, v1: u16) -> u16
     requires { ⌜ (b < e) × (e ≤ length (now ents)) × ((j : ℕ) → b ≤ j → j < e → getD (now ents) j 0 < length (now rank)) ⌝ }
-    ensures { λ r. ⌜ r ≡ opens (before (now (rank .entry)) k) v1 (before (now (rank .entry)) k (getD (now (ents .entry)) (e - 1) 0)) (slice b e (now (ents .entry))) ⌝ }
+    ensures { λ r. ⌜ r ≡ opens (before (now (rank .entry)) k) v1 (before (now (rank .entry)) k (getD (now (ents .entry)) (e - 1) 0))
+        (slice b e (now (ents .entry))) ⌝ }
 {
     let mut last = is_before(rank, ents[e - 1], k);
     let mut i = b;
@@ -144,7 +147,8 @@ pub struct NextRun {
 // The run of the post in position k + 1.
 pub fn next_run(at: &[u16], ents: &[u16], vs: &[u16], rank: &[u16], k: usize) -> NextRun
     requires { ⌜ Fitted (now at) (now ents) (now vs) (now rank) × (2 ≤ k) × (k < length (now vs)) ⌝ }
-    ensures { λ r. ⌜ (r .first ≡ post (run (held (now (at .entry)) (now (ents .entry))) (take k (now (vs .entry))) (post (now (vs .entry)) (k + 1))) 1) × (r .many ≡ length (run (held (now (at .entry)) (now (ents .entry))) (take k (now (vs .entry))) (post (now (vs .entry)) (k + 1)))) ⌝ }
+    ensures { λ r. ⌜ (r .first ≡ post (run (held (now (at .entry)) (now (ents .entry))) (take k (now (vs .entry))) (post (now (vs .entry)) (k + 1))) 1)
+        × (r .many ≡ length (run (held (now (at .entry)) (now (ents .entry))) (take k (now (vs .entry))) (post (now (vs .entry)) (k + 1)))) ⌝ }
 {
     let j = words::number(vs[k]);
     let b = words::number(at[j]);

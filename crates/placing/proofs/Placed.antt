@@ -6,7 +6,6 @@ use mathlib.Core.List.{List, [], _∷_, flatMap}
 use Prim.Native.Nat.{ℕ, _+_}
 use lib.Dec.{eqb}
 use Rattle.words.specs.Lists.{In, mem, lastOf}
-use Rattle.words.specs.Positions.{post}
 use Rattle.words.proofs.Lists.{Once, in-right, last-append}
 use Rattle.words.proofs.Tests.{eqb-other}
 use Rattle.order.specs.Order.{run}
@@ -18,9 +17,6 @@ abbrev pub movedBy : List ℕ → List ℕ → ℕ → ℕ
 movedBy ones twos u = cond (mem ones u) 1 0 + cond (mem twos u) 2 0
 
 module _ (G : List (List ℕ)) (t : Stage) (v : ℕ) (s : Step G t v) where
-  first-is : post (run G (t .placed) v) 1 ≡ s .p
-  first-is = rw (s .run-is)
-
   last-is : lastOf 0 (run G (t .placed) v) ≡ s .q
   last-is = rw (s .run-is) (last-append (s .p) (s .M) (s .q) [])
 
@@ -28,7 +24,8 @@ module _ (G : List (List ℕ)) (t : Stage) (v : ℕ) (s : Step G t v) where
   inner-is = ap inner (s .run-is) ∙ inner-run (s .p) (s .M) (s .q)
 
   right-is : onFrom (lastOf 0 (run G (t .placed) v)) (t .contour) ≡ s .q ∷ s .Y
-  right-is = ap (λ (q : ℕ). onFrom q (t .contour)) last-is ∙ ap (onFrom (s .q)) (s .before) ∙ on-from-run (s .X) (s .p) (s .M) (s .q) (s .Y) (subst Once (s .before) (s .once))
+  right-is = ap (λ (q : ℕ). onFrom q (t .contour)) last-is ∙ ap (onFrom (s .q)) (s .before)
+      ∙ on-from-run (s .X) (s .p) (s .M) (s .q) (s .Y) (subst Once (s .before) (s .once))
 
   pub place-group : (u : ℕ) → place G t v .group u ≡ cond (eqb u v) (v ∷ flatMap (t .group) (s .M)) (t .group u)
   unfolding place placeOver

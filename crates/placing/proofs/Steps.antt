@@ -75,7 +75,8 @@ pub record Step (G : List (List ℕ)) (t : Stage) (v : ℕ) : Type 0 where
   pub old : Contour (After G) (post (t .placed) 1) (post (t .placed) 2) (t .placed) (t .contour)
   pub now : Contour (After G) (post (t .placed) 1) (post (t .placed) 2) (place G t v .placed) (place G t v .contour)
 
-place-contour : (G : List (List ℕ)) (t : Stage) (v : ℕ) (X M Y : List ℕ) (p q : ℕ) → run G (t .placed) v ≡ p ∷ (M ++ q ∷ []) → t .contour ≡ X ++ p ∷ (M ++ q ∷ Y)
+place-contour : (G : List (List ℕ)) (t : Stage) (v : ℕ) (X M Y : List ℕ) (p q : ℕ) → run G (t .placed) v ≡ p ∷ (M ++ q ∷ [])
+    → t .contour ≡ X ++ p ∷ (M ++ q ∷ Y)
     → Once (t .contour) → place G t v .contour ≡ X ++ p ∷ v ∷ q ∷ Y
 unfolding place placeOver
 place-contour G t v X M Y p q r b o =
@@ -138,7 +139,8 @@ from-three Q n b f zero h i = absurd (omega arith)
 from-three Q n b f (suc zero) h i = absurd (omega arith)
 from-three Q n b f (suc (suc zero)) h i = absurd (omega arith)
 from-three Q n b f (suc (suc (suc zero))) h i = b
-from-three Q n b f (suc (suc (suc (suc k)))) h i = rw add-one at (f (suc (suc (suc k))) (omega arith) i (from-three Q n b f (suc (suc (suc k))) (omega arith) (omega arith)))
+from-three Q n b f (suc (suc (suc (suc k)))) h i =
+    rw add-one at (f (suc (suc (suc k))) (omega arith) i (from-three Q n b f (suc (suc (suc k))) (omega arith) (omega arith)))
 
 -- with M between them v1 and v2 are the whole contour v1, v2: v3 comes between them
 two-long : (X M Y : List ℕ) (v1 v2 v3 p q : ℕ) → v1 ∷ v2 ∷ [] ≡ X ++ p ∷ (M ++ q ∷ Y) → X ++ p ∷ v3 ∷ q ∷ Y ≡ v1 ∷ v3 ∷ v2 ∷ []

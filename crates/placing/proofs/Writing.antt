@@ -25,13 +25,17 @@ module _ (xs ys : List ℕ) where
 
 two-more : (P B : List ℕ) (n x y : ℕ) → length P ≡ n → n + 1 < length B → set (set (P ++ drop n B) n x) (n + 1) y ≡ (P ++ x ∷ y ∷ []) ++ drop (n + 2) B
 two-more P B n x y e h =
-    let d : drop n B ≡ getD B n 0 ∷ getD B (suc n) 0 ∷ drop (suc (suc n)) B = drop-cons B n 0 (omega arith) ∙ ap (λ (r : List ℕ). getD B n 0 ∷ r) (drop-cons B (suc n) 0 (omega arith)) in
-    let a : set (P ++ drop n B) n x ≡ P ++ x ∷ getD B (suc n) 0 ∷ drop (suc (suc n)) B = ap (λ (r : List ℕ). set (P ++ r) n x) d ∙ set-at P (getD B n 0) (getD B (suc n) 0 ∷ drop (suc (suc n)) B) x n e in
-    let b : P ++ x ∷ getD B (suc n) 0 ∷ drop (suc (suc n)) B ≡ (P ++ x ∷ []) ++ getD B (suc n) 0 ∷ drop (suc (suc n)) B = sym (append-assoc P (x ∷ []) (getD B (suc n) 0 ∷ drop (suc (suc n)) B)) in
+    let d : drop n B ≡ getD B n 0 ∷ getD B (suc n) 0 ∷ drop (suc (suc n)) B =
+    drop-cons B n 0 (omega arith) ∙ ap (λ (r : List ℕ). getD B n 0 ∷ r) (drop-cons B (suc n) 0 (omega arith)) in
+    let a : set (P ++ drop n B) n x ≡ P ++ x ∷ getD B (suc n) 0 ∷ drop (suc (suc n)) B =
+    ap (λ (r : List ℕ). set (P ++ r) n x) d ∙ set-at P (getD B n 0) (getD B (suc n) 0 ∷ drop (suc (suc n)) B) x n e in
+    let b : P ++ x ∷ getD B (suc n) 0 ∷ drop (suc (suc n)) B ≡ (P ++ x ∷ []) ++ getD B (suc n) 0 ∷ drop (suc (suc n)) B =
+    sym (append-assoc P (x ∷ []) (getD B (suc n) 0 ∷ drop (suc (suc n)) B)) in
     let f : set ((P ++ x ∷ []) ++ getD B (suc n) 0 ∷ drop (suc (suc n)) B) (n + 1) y ≡ (P ++ x ∷ []) ++ y ∷ drop (suc (suc n)) B =
     set-at (P ++ x ∷ []) (getD B (suc n) 0) (drop (suc (suc n)) B) y (n + 1) (omega (arith, length-append P (x ∷ []))) in
     let g : suc (suc n) ≡ n + 2 = omega arith in
-    ap (λ (r : List ℕ). set r (n + 1) y) (a ∙ b) ∙ f ∙ append-assoc P (x ∷ []) (y ∷ drop (suc (suc n)) B) ∙ sym (append-assoc P (x ∷ y ∷ []) (drop (suc (suc n)) B))
+    ap (λ (r : List ℕ). set r (n + 1) y) (a ∙ b) ∙ f ∙ append-assoc P (x ∷ []) (y ∷ drop (suc (suc n)) B)
+    ∙ sym (append-assoc P (x ∷ y ∷ []) (drop (suc (suc n)) B))
     ∙ ap (λ (m : ℕ). (P ++ x ∷ y ∷ []) ++ drop m B) g
 
 pub record Writing (vs : List ℕ) (k : ℕ) (xs ys buffer₀ buffer : List ℕ) (i : ℕ) : Type 0 where

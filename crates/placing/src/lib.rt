@@ -23,7 +23,8 @@ pub struct Record {
 
 // The first 2k entries of the buffer become x then y of v1, then of v2, up to vk. Entries beyond stay as they were.
 pub fn write_sheet(vs: &[u16], k: usize, xs: &[u16], ys: &[u16], buffer: &mut [u16])
-    requires { ⌜ (k ≤ length (now vs)) × (k ≤ limit) × (2 * k ≤ length (now buffer)) × ((i : ℕ) → i < k → (getD (now vs) i 0 < length (now xs)) × (getD (now vs) i 0 < length (now ys))) ⌝ }
+    requires { ⌜ (k ≤ length (now vs)) × (k ≤ limit) × (2 * k ≤ length (now buffer))
+        × ((i : ℕ) → i < k → (getD (now vs) i 0 < length (now xs)) × (getD (now vs) i 0 < length (now ys))) ⌝ }
     ensures { λ r. ⌜ now (buffer .exit) ≡ pairs (now (xs .entry)) (now (ys .entry)) (take k (now (vs .entry))) ++ drop (2 * k) (now (buffer .entry)) ⌝ }
 {
     let mut i = 0;

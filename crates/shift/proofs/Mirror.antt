@@ -112,7 +112,8 @@ module _ (G : List (List ℕ)) (F : Faces G) (v1 v2 vn : ℕ) (o : After G v2 v1
     -- where the run closes to a ring, v is vn and its ends are v1 and v2
     closes : After G v (S .q) (S .p) → (v ≡ vn) × (S .q ≡ v2) × (S .p ≡ v1)
     closes f =
-        via (K .edge (S .q) (S .p) v (S .the-run .placed (S .q) (inr (in-right (S .q) (S .M) (S .q ∷ []) (inl refl)))) (S .the-run .placed (S .p) (inl refl)) (S .new) f')
+        via (K .edge (S .q) (S .p) v (S .the-run .placed (S .q) (inr (in-right (S .q) (S .M) (S .q ∷ []) (inl refl))))
+        (S .the-run .placed (S .p) (inl refl)) (S .new) f')
       where
         K : Contour (After G) (post (t .placed) 1) (post (t .placed) 2) (t .placed) (S .X ++ S .p ∷ (S .M ++ S .q ∷ S .Y))
         K = subst (Contour (After G) (post (t .placed) 1) (post (t .placed) 2) (t .placed)) (S .before) (S .old)

@@ -7,7 +7,8 @@ use Rattle.drawing.proofs.Numbers.{times}
 
 -- Corners that move right, a the least and b the most: the triangle does not shrink if v is as high as b, or moves with a; and as a, or with b.
 pub moved-turn : (xa ya xb yb xv yv xa' xb' xv' α γ β : ℕ) → xa' ≡ xa + α → xv' ≡ xv + (α + γ) → xb' ≡ xb + (α + γ + β)
-    → γ * yb ≤ γ * yv → β * ya ≤ β * yv → xb * ya + xv * yb + xa * yv < xa * yb + xb * yv + xv * ya → xb' * ya + xv' * yb + xa' * yv < xa' * yb + xb' * yv + xv' * ya
+    → γ * yb ≤ γ * yv → β * ya ≤ β * yv → xb * ya + xv * yb + xa * yv < xa * yb + xb * yv + xv * ya
+    → xb' * ya + xv' * yb + xa' * yv < xa' * yb + xb' * yv + xv' * ya
 moved-turn xa ya xb yb xv yv xa' xb' xv' α γ β ea ev eb h k t =
     omega (arith, times ya eb, times yv eb, times yb ev, times ya ev, times yv ea, times yb ea)
 

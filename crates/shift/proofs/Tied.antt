@@ -102,7 +102,8 @@ module _ (G : List (List ℕ)) (t : Stage) (v : ℕ) (S : Step G t v) where
     one-step = rw place-over (stepped t (S .X) (S .p) (S .M) (S .q) (S .Y) v (redrawn .drawn) (S .new))
 
     -- how far each post moves: not at all in the groups up to w_p, by 1 in those between, by 2 in those from w_q on
-    new-x : (u : ℕ) → Post (redrawn .B') u → (n : ℕ) → movedBy (flatMap (t .group) (S .M)) (flatMap (t .group) (S .q ∷ S .Y)) u ≡ n → place G t v .x u ≡ t .x u + n
+    new-x : (u : ℕ) → Post (redrawn .B') u → (n : ℕ) → movedBy (flatMap (t .group) (S .M)) (flatMap (t .group) (S .q ∷ S .Y)) u ≡ n
+        → place G t v .x u ≡ t .x u + n
     new-x u h n e = place-x-old G t v S u (λ d. S .new (rw d at (redrawn .drawn .posts u h))) ∙ ap (λ (m : ℕ). t .x u + m) e
 
     pub left-moves : (c u : ℕ) → In c (S .X ++ S .p ∷ []) → In u (t .group c) → place G t v .x u ≡ t .x u

@@ -14,7 +14,9 @@ abbrev μ-loop : tie.MeasureT-loop
 loop-holds : tie.Need-loop-holds Inv-loop μ-loop
 loop-holds c =
     let entry = c .before .before .before in
-    hang-start (entry .args .right .now) (entry .args .off .now) (entry .args .cover .now) (entry .args .first) (entry .args .m) (entry .args .d) (entry .args .v) (entry .pre .0) (entry .pre .1) (entry .pre .2) (entry .pre .3)
+    let args = entry .args in
+    let pre = entry .pre in
+    hang-start (args .right .now) (args .off .now) (args .cover .now) (args .first) (args .m) (args .d) (args .v) (pre .0) (pre .1) (pre .2) (pre .3)
 
 number-requires : tie.Need-number-requires Inv-loop μ-loop
 number-requires c κs = search needs
@@ -23,13 +25,19 @@ mul-s : tie.Need-mul-s Inv-loop μ-loop
 mul-s c = search needs
 
 slice-read-s : tie.Need-slice-read-s Inv-loop μ-loop
-slice-read-s c = hang-off _ _ _ _ _ _ _ _ _ _ _ _ (c .before .before .before .loop .inv) (search needs) (c .before .number .result) (c .before .number .ensures .0)
+slice-read-s c =
+    let number = c .before .number in
+    hang-off _ _ _ _ _ _ _ _ _ _ _ _ (c .before .before .before .loop .inv) (search needs) (number .result) (number .ensures .0)
 
 add-s : tie.Need-add-s Inv-loop μ-loop
-add-s c = omega (arith, hang-fits _ _ _ _ _ _ _ _ _ _ _ _ (c .before .before .before .loop .inv) (search needs) (c .before .number .result) (c .before .number .ensures .0))
+add-s c =
+    let number = c .before .number in
+    omega (arith, hang-fits _ _ _ _ _ _ _ _ _ _ _ _ (c .before .before .before .loop .inv) (search needs) (number .result) (number .ensures .0))
 
 add-off : tie.Need-add-off Inv-loop μ-loop
-add-off c = omega (arith, hang-fits _ _ _ _ _ _ _ _ _ _ _ _ (c .before .before .before .loop .inv) (search needs) (c .before .number .result) (c .before .number .ensures .0))
+add-off c =
+    let number = c .before .number in
+    omega (arith, hang-fits _ _ _ _ _ _ _ _ _ _ _ _ (c .before .before .before .loop .inv) (search needs) (number .result) (number .ensures .0))
 
 sub-off : tie.Need-sub-off Inv-loop μ-loop
 sub-off c = omega (arith, c .before .before .before .before .before .before .before .pre .4)
@@ -38,19 +46,25 @@ mul-off : tie.Need-mul-off Inv-loop μ-loop
 mul-off c = search needs
 
 slice-write-off : tie.Need-slice-write-off Inv-loop μ-loop
-slice-write-off c = hang-off _ _ _ _ _ _ _ _ _ _ _ _ (c .before .before .before .loop .inv) (search needs) (c .before .number .result) (c .before .number .ensures .0)
+slice-write-off c =
+    let number = c .before .number in
+    hang-off _ _ _ _ _ _ _ _ _ _ _ _ (c .before .before .before .loop .inv) (search needs) (number .result) (number .ensures .0)
 
 mul-cover : tie.Need-mul-cover Inv-loop μ-loop
 mul-cover c = search needs
 
 slice-write-cover : tie.Need-slice-write-cover Inv-loop μ-loop
-slice-write-cover c = hang-cover _ _ _ _ _ _ _ _ _ _ _ _ (c .before .before .before .loop .inv) (search needs) (c .before .number .result) (c .before .number .ensures .0)
+slice-write-cover c =
+    let number = c .before .number in
+    hang-cover _ _ _ _ _ _ _ _ _ _ _ _ (c .before .before .before .loop .inv) (search needs) (number .result) (number .ensures .0)
 
 mul-a : tie.Need-mul-a Inv-loop μ-loop
 mul-a c = search needs
 
 shared-slice-read-a : tie.Need-shared-slice-read-a Inv-loop μ-loop
-shared-slice-read-a c = hang-right _ _ _ _ _ _ _ _ _ _ _ _ (c .before .before .before .before .loop .inv) (search needs) (c .before .before .number .result) (c .before .before .number .ensures .0)
+shared-slice-read-a c =
+    let number = c .before .before .number in
+    hang-right _ _ _ _ _ _ _ _ _ _ _ _ (c .before .before .before .before .loop .inv) (search needs) (number .result) (number .ensures .0)
 
 add-i : tie.Need-add-i Inv-loop μ-loop
 add-i c = search needs
@@ -59,7 +73,9 @@ loop-less : tie.Need-loop-less Inv-loop μ-loop
 loop-less c = search needs
 
 loop-again : tie.Need-loop-again Inv-loop μ-loop
-loop-again c = hang-again _ _ _ _ _ _ _ _ _ _ _ _ (c .before .before .before .before .loop .inv) (search needs) (c .before .before .number .result) (c .before .before .number .ensures .0)
+loop-again c =
+    let number = c .before .before .number in
+    hang-again _ _ _ _ _ _ _ _ _ _ _ _ (c .before .before .before .before .loop .inv) (search needs) (number .result) (number .ensures .0)
 
 same-length : tie.Need-same-length Inv-loop μ-loop
 same-length c = c .before .loop .inv .same-off

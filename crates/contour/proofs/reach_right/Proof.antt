@@ -13,7 +13,10 @@ abbrev μ-loop : tie.MeasureT-loop
 μ-loop right off p m a₀ s₀ i₀ a s i = m - i
 
 loop-holds : tie.Need-loop-holds Inv-loop μ-loop
-loop-holds c = reach-start (c .before .before .args .right .now) (c .before .before .args .off .now) (c .before .before .args .p) (c .before .before .args .m) (c .before .before .pre .0) (c .before .before .pre .1)
+loop-holds c =
+    let entry = c .before .before in
+    let args = entry .args in
+    reach-start (args .right .now) (args .off .now) (args .p) (args .m) (entry .pre .0) (entry .pre .1)
 
 number-requires : tie.Need-number-requires Inv-loop μ-loop
 number-requires c κs = search needs
@@ -22,7 +25,9 @@ mul-a : tie.Need-mul-a Inv-loop μ-loop
 mul-a c = search needs
 
 shared-slice-read-a : tie.Need-shared-slice-read-a Inv-loop μ-loop
-shared-slice-read-a c = reach-here _ _ _ _ _ _ _ (c .before .before .before .loop .inv) (search needs) (c .before .number .result) _ (c .before .number .ensures .0) refl
+shared-slice-read-a c =
+    let number = c .before .number in
+    reach-here _ _ _ _ _ _ _ (c .before .before .before .loop .inv) (search needs) (number .result) _ (number .ensures .0) refl
 
 number-requires-2 : tie.Need-number-requires-2 Inv-loop μ-loop
 number-requires-2 c κs = search needs
@@ -32,13 +37,18 @@ mul-s c = search needs
 
 shared-slice-read-s : tie.Need-shared-slice-read-s Inv-loop μ-loop
 shared-slice-read-s c =
-    let number = c .before .before .before .number in
-    reach-next _ _ _ _ _ _ _ (c .before .before .before .before .before .loop .inv) (search needs) (number .result) (c .before .number2 .result) (number .ensures .0) (c .before .number2 .ensures .0)
+    let here = c .before .before .before .number in
+    let next = c .before .number2 in
+    let inv = c .before .before .before .before .before .loop .inv in
+    reach-next _ _ _ _ _ _ _ inv (search needs) (here .result) (next .result) (here .ensures .0) (next .ensures .0)
 
 add-s : tie.Need-add-s Inv-loop μ-loop
 add-s c =
-    let number = c .before .before .before .number in
-    omega (arith, c .before .before .before .before .before .before .before .before .pre .2, reach-sum _ _ _ _ _ _ _ (c .before .before .before .before .before .loop .inv) (search needs) (number .result) (c .before .number2 .result) (number .ensures .0) (c .before .number2 .ensures .0))
+    let here = c .before .before .before .number in
+    let next = c .before .number2 in
+    let turn = c .before .before .before .before .before in
+    let sum = reach-sum _ _ _ _ _ _ _ (turn .loop .inv) (search needs) (here .result) (next .result) (here .ensures .0) (next .ensures .0) in
+    omega (arith, turn .before .before .before .pre .2, sum)
 
 add-i : tie.Need-add-i Inv-loop μ-loop
 add-i c = search needs
@@ -48,8 +58,10 @@ loop-less c = search needs
 
 loop-again : tie.Need-loop-again Inv-loop μ-loop
 loop-again c =
-    let number = c .before .before .before .number in
-    reach-again _ _ _ _ _ _ _ (c .before .before .before .before .before .loop .inv) (search needs) (number .result) (c .before .number2 .result) (number .ensures .0) (c .before .number2 .ensures .0)
+    let here = c .before .before .before .number in
+    let next = c .before .number2 in
+    let inv = c .before .before .before .before .before .loop .inv in
+    reach-again _ _ _ _ _ _ _ inv (search needs) (here .result) (next .result) (here .ensures .0) (next .ensures .0)
 
 returns : tie.Need-returns Inv-loop μ-loop
 returns c = reach-end _ _ _ _ _ _ _ (c .before .loop .inv) (search needs)

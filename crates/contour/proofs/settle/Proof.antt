@@ -32,25 +32,40 @@ mul-number-2 : tie.Need-mul-number-2 Inv-loop μ-loop
 mul-number-2 c = search needs
 
 shared-slice-read-number-2 : tie.Need-shared-slice-read-number-2 Inv-loop μ-loop
-shared-slice-read-number-2 c = settle-cover _ _ _ _ _ (c .before .before .before .before .before .before .before .before .before .pre .0) _ _ (c .before .before .before .before .loop .inv) (search needs) _ _ (c .before .number .ensures .0) refl
+shared-slice-read-number-2 c =
+    let turn = c .before .before .before .before in
+    let entry = turn .before .before .before .before .before in
+    settle-cover _ _ _ _ _ (entry .pre .0) _ _ (turn .loop .inv) (search needs) _ _ (c .before .number .ensures .0) refl
 
 number-requires-2 : tie.Need-number-requires-2 Inv-loop μ-loop
 number-requires-2 c κs = search needs
 
 column-requires : tie.Need-column-requires Inv-loop μ-loop
-column-requires c κs = settle-ready _ _ _ _ _ (c .before .before .before .before .before .before .before .before .before .before .before .pre .0) _ _ (c .before .before .before .before .before .before .loop .inv) (search needs) _ _ (c .before .before .before .number .ensures .0) (c .before .number2 .ensures .0)
+column-requires c κs =
+    let u = c .before .before .before .number .ensures .0 in
+    let turn = c .before .before .before .before .before .before in
+    let entry = turn .before .before .before .before .before in
+    settle-ready _ _ _ _ _ (entry .pre .0) _ _ (turn .loop .inv) (search needs) _ _ u (c .before .number2 .ensures .0)
 
 mul-xs : tie.Need-mul-xs Inv-loop μ-loop
 mul-xs c = search needs
 
 slice-write-xs : tie.Need-slice-write-xs Inv-loop μ-loop
-slice-write-xs c = settle-xs _ _ _ _ _ (c .before .before .before .before .before .before .before .before .before .before .before .before .pre .0) _ _ (c .before .before .before .before .before .before .before .loop .inv) (search needs) _ _ (c .before .before .before .before .number .ensures .0) (c .before .before .number2 .ensures .0)
+slice-write-xs c =
+    let u = c .before .before .before .before .number .ensures .0 in
+    let turn = c .before .before .before .before .before .before .before in
+    let entry = turn .before .before .before .before .before in
+    settle-xs _ _ _ _ _ (entry .pre .0) _ _ (turn .loop .inv) (search needs) _ _ u (c .before .before .number2 .ensures .0)
 
 loop-less : tie.Need-loop-less Inv-loop μ-loop
 loop-less c = search needs
 
 loop-again : tie.Need-loop-again Inv-loop μ-loop
-loop-again c = settle-again _ _ _ _ _ (c .before .before .before .before .before .before .before .before .before .before .before .before .pre .0) _ _ (c .before .before .before .before .before .before .before .loop .inv) (search needs) _ _ (c .before .before .before .before .number .ensures .0) (c .before .before .number2 .ensures .0) _ (c .column .ensures)
+loop-again c =
+    let u = c .before .before .before .before .number .ensures .0 in
+    let turn = c .before .before .before .before .before .before .before in
+    let entry = turn .before .before .before .before .before in
+    settle-again _ _ _ _ _ (entry .pre .0) _ _ (turn .loop .inv) (search needs) _ _ u (c .before .before .number2 .ensures .0) _ (c .column .ensures)
 
 same-length : tie.Need-same-length Inv-loop μ-loop
 same-length c = c .before .loop .inv .same

@@ -25,7 +25,10 @@ shared-slice-read-s : tie.Need-shared-slice-read-s Inv-loop μ-loop
 shared-slice-read-s c = spread-off _ _ _ _ _ _ _ _ _ _ (c .before .before .before .loop .inv) (search needs) _ (c .before .number .ensures .0)
 
 add-s : tie.Need-add-s Inv-loop μ-loop
-add-s c = omega (arith, spread-fits _ _ _ _ _ _ _ _ _ _ (c .before .before .before .loop .inv) (search needs) _ (c .before .number .ensures .0) (c .before .before .before .before .before .before .before .pre .fits))
+add-s c =
+    let turn = c .before .before .before in
+    let fits = turn .before .before .before .before .pre .fits in
+    omega (arith, spread-fits _ _ _ _ _ _ _ _ _ _ (turn .loop .inv) (search needs) _ (c .before .number .ensures .0) fits)
 
 mul-xs : tie.Need-mul-xs Inv-loop μ-loop
 mul-xs c = search needs
@@ -37,13 +40,17 @@ same-length : tie.Need-same-length Inv-loop μ-loop
 same-length c = spread-same _ _ _ _ _ _ _ _ _ _ (c .before .before .before .before .loop .inv) (search needs) _ (c .before .before .number .ensures .0)
 
 returns : tie.Need-returns Inv-loop μ-loop
-returns c = spread-end _ _ _ _ _ _ _ _ _ _ (c .before .before .before .before .loop .inv) (search needs) _ (c .before .before .number .ensures .0) (c .if1 .taken)
+returns c =
+    let j = c .before .before .number .ensures .0 in
+    spread-end _ _ _ _ _ _ _ _ _ _ (c .before .before .before .before .loop .inv) (search needs) _ j (c .if1 .taken)
 
 mul-a : tie.Need-mul-a Inv-loop μ-loop
 mul-a c = search needs
 
 shared-slice-read-a : tie.Need-shared-slice-read-a Inv-loop μ-loop
-shared-slice-read-a c = spread-right _ _ _ _ _ _ _ _ _ _ (c .before .before .before .before .before .loop .inv) (search needs) _ (c .before .before .before .number .ensures .0)
+shared-slice-read-a c =
+    let j = c .before .before .before .number .ensures .0 in
+    spread-right _ _ _ _ _ _ _ _ _ _ (c .before .before .before .before .before .loop .inv) (search needs) _ j
 
 add-i : tie.Need-add-i Inv-loop μ-loop
 add-i c = search needs
@@ -52,7 +59,9 @@ loop-less : tie.Need-loop-less Inv-loop μ-loop
 loop-less c = search needs
 
 loop-again : tie.Need-loop-again Inv-loop μ-loop
-loop-again c = spread-again _ _ _ _ _ _ _ _ _ _ (c .before .before .before .before .before .loop .inv) (search needs) _ (c .before .before .before .number .ensures .0) (c .before .if1 .left)
+loop-again c =
+    let j = c .before .before .before .number .ensures .0 in
+    spread-again _ _ _ _ _ _ _ _ _ _ (c .before .before .before .before .before .loop .inv) (search needs) _ j (c .before .if1 .left)
 
 same-length-2 : tie.Need-same-length-2 Inv-loop μ-loop
 same-length-2 c = c .before .loop .inv .same

@@ -14,7 +14,11 @@ spread-requires : tie.Need-spread-requires
 spread-requires c κs = search needs
 
 settle-requires : tie.Need-settle-requires
-settle-requires c κs = laid-ready _ _ _ _ _ _ _ (c .before .before .before .before .before .before .before .before .before .before .before .before .pre) (c .before .before .before .spread .ensures)
+settle-requires c κs =
+    let spread = c .before .before .before in
+    let lent = spread .before .before .before .before in
+    let entry = lent .before .before .before .before .before in
+    laid-ready _ _ _ _ _ _ _ (entry .pre) (spread .spread .ensures)
 
 same-length : tie.Need-same-length
 same-length c = search needs

@@ -8,8 +8,12 @@ reach-requires c κs = search needs
 
 columns-requires : tie.Need-columns-requires
 columns-requires c κs =
-    let entry = c .before .before .before .before .before .before .before .before .before .before .before .before .before .before .before .before .before .before .before .before .before .before .before .before .before .before .before .before .before .before in
-    readable _ _ _ _ (entry .pre .0) _ (entry .pre .1) (entry .pre .2) _ _ _ _ _ (c .before .before .before .before .before .before .before .before .before .before .before .before .before .before .reach .ensures) _ (entry .pre .4)
+    let left = c .before .before .before .before .before .before .before in
+    let reached = left .before .before .before .before .before .before .before in
+    let lent = reached .before .before .before .before .before .before in
+    let shared = lent .before .before .before .before .before in
+    let entry = shared .before .before .before .before .before in
+    readable _ _ _ _ (entry .pre .0) _ (entry .pre .1) (entry .pre .2) _ _ _ _ _ (reached .reach .ensures) _ (entry .pre .4)
 
 same-length : tie.Need-same-length
 same-length c = search needs
@@ -31,8 +35,15 @@ same-length-6 c = search needs
 
 returns : tie.Need-returns
 returns c =
-    let entry = c .before .before .before .before .before .before .before .before .before .before .before .before .before .before .before .before .before .before .before .before .before .before .before .before .before .before .before .before .before .before .before .before .before in
-    drawn _ _ _ _ (entry .pre .0) _ (entry .pre .1) (entry .pre .2) _ _ _ _ _ (c .before .before .before .before .before .before .before .before .before .before .before .before .before .before .before .before .before .reach .ensures) _ (entry .pre .4) _ (c .before .before .columns .ensures) (search needs)
+    let told = c .before .before in
+    let right = told .before .before .before .before .before .before in
+    let off = right .before .before .before .before .before .before in
+    let reached = off .before .before .before in
+    let lent = reached .before .before .before .before .before .before in
+    let shared = lent .before .before .before .before .before in
+    let entry = shared .before .before .before .before .before in
+    drawn _ _ _ _ (entry .pre .0) _ (entry .pre .1) (entry .pre .2) _ _ _ _ _ (reached .reach .ensures) _ (entry .pre .4) _ (told .columns .ensures)
+    (search needs)
 
 pub draw-spec : {M : Type 1} → statement M
 draw-spec =

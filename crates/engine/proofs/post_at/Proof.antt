@@ -1,18 +1,25 @@
 use Rattle.engine.proofs.post_at.Statement.{statement}
 use Rattle.engine.proofs.post_at.Tie as tie
 use mathlib.Core.Path.{_∙_}
-use Rattle.engine.proofs.Given.{record-is, record-ready}
+use Rattle.engine.proofs.Told.{record-is, record-ready}
 use borrow.Author.Needs.{needs}
 
 draw-requires : tie.Need-draw-requires
 draw-requires c κs =
-    let entry = c .before .before .before .before .before .before .before .before .before .before .before .before .before .before .before .before in
+    let lent = c .before .before .before .before .before .before in
+    let shared = lent .before .before .before .before .before in
+    let entry = shared .before .before .before .before .before in
     (entry .pre .0, entry .pre .1, entry .pre .2, entry .pre .3, entry .pre .4)
 
 record-at-requires : tie.Need-record-at-requires
 record-at-requires c κs =
-    let entry = c .before .before .before .before .before .before .before .before .before .before .before .before .before .before .before .before .before .before .before .before .before .before .before .before .before .before .before .before .before .before .before .before .before .before in
-    record-ready _ _ _ _ (entry .pre .0) _ (entry .pre .1) (entry .pre .2) _ _ _ _ _ _ (c .before .before .before .before .before .before .before .before .before .before .before .before .before .before .before .before .before .draw .ensures) _ (entry .pre .5)
+    let xs = c .before .before .before .before .before .before in
+    let cover = xs .before .before .before .before .before .before in
+    let drawn = cover .before .before .before .before .before in
+    let lent = drawn .before .before .before .before .before .before .before in
+    let shared = lent .before .before .before .before .before in
+    let entry = shared .before .before .before .before .before in
+    record-ready _ _ _ _ (entry .pre .0) _ (entry .pre .1) (entry .pre .2) _ _ _ _ _ _ (drawn .draw .ensures) _ (entry .pre .5)
 
 same-length : tie.Need-same-length
 same-length c = search needs
@@ -34,8 +41,13 @@ same-length-6 c = search needs
 
 returns : tie.Need-returns
 returns c =
-    let entry = c .before .before .before .before .before .before .before .before .before .before .before .before .before .before .before .before .before .before .before .before .before .before .before .before .before .before .before .before .before .before .before .before .before .before .before in
-    c .record-at .ensures ∙ record-is _ _ _ _ (entry .pre .0) _ (entry .pre .1) (entry .pre .2) _ _ _ _ _ _ (c .before .before .before .before .before .before .before .before .before .before .before .before .before .before .before .before .before .before .draw .ensures) _ (entry .pre .5)
+    let xs = c .before .before .before .before .before .before .before in
+    let cover = xs .before .before .before .before .before .before in
+    let drawn = cover .before .before .before .before .before in
+    let lent = drawn .before .before .before .before .before .before .before in
+    let shared = lent .before .before .before .before .before in
+    let entry = shared .before .before .before .before .before in
+    c .record-at .ensures ∙ record-is _ _ _ _ (entry .pre .0) _ (entry .pre .1) (entry .pre .2) _ _ _ _ _ _ (drawn .draw .ensures) _ (entry .pre .5)
 
 pub post-at-spec : {M : Type 1} → statement M
 post-at-spec =

@@ -9,7 +9,9 @@ use Rattle.engine.proofs.Third.{corners, third-holds}
 use borrow.Author.Needs.{needs}
 
 abbrev Inv-loop : tie.InvT-loop
-Inv-loop at ents vs rank k ys₀ off₀ cover₀ left₀ right₀ i₀ ys off cover left right i = (3 ≤ i) × (i ≤ k) × Holds at ents vs i ys off cover left right × (length ys ≡ length ys₀) × (length off ≡ length off₀) × (length cover ≡ length cover₀) × (length left ≡ length left₀) × (length right ≡ length right₀)
+Inv-loop at ents vs rank k ys₀ off₀ cover₀ left₀ right₀ i₀ ys off cover left right i = (3 ≤ i) × (i ≤ k)
+    × Holds at ents vs i ys off cover left right × (length ys ≡ length ys₀) × (length off ≡ length off₀) × (length cover ≡ length cover₀)
+    × (length left ≡ length left₀) × (length right ≡ length right₀)
 
 abbrev μ-loop : tie.MeasureT-loop
 μ-loop at ents vs rank k ys₀ off₀ cover₀ left₀ right₀ i₀ ys off cover left right i = k - i
@@ -25,27 +27,60 @@ shared-slice-read-start-3 c = search needs
 
 start-requires : tie.Need-start-requires Inv-loop μ-loop
 start-requires c κs =
-    let entry = c .before .before .before .before .before .before .before .before .before .before .before .before .before .before .before .before .before in
+    let read = c .before .before .before .before .before in
+    let shared = read .before .before .before .before .before .before .before in
+    let entry = shared .before .before .before .before .before in
     corners _ _ _ _ _ _ _ _ _ (entry .pre .0) (entry .pre .3)
 
 loop-holds : tie.Need-loop-holds Inv-loop μ-loop
 loop-holds c =
-    let entry = c .before .before .before .before .before .before .before .before .before .before .before .before .before .before .before .before .before .before .before .before .before .before .before .before .before .before .before .before in
-    (search needs, search needs, third-holds _ _ _ _ _ _ _ _ _ (entry .pre .0) (entry .pre .3) _ _ _ _ _ (c .before .before .before .before .before .before .before .before .before .before .start .ensures) (search needs) (search needs) (search needs) (search needs) (search needs), search needs, search needs, search needs, search needs, search needs)
+    let cover = c .before .before .before .before .before in
+    let started = cover .before .before .before .before .before in
+    let read = started .before .before .before .before .before .before in
+    let shared = read .before .before .before .before .before .before .before in
+    let entry = shared .before .before .before .before .before in
+    let begun = started .start .ensures in (
+      search needs,
+      search needs,
+      third-holds _ _ _ _ _ _ _ _ _ (entry .pre .0) (entry .pre .3) _ _ _ _ _ begun (search needs) (search needs) (search needs) (search needs) (search needs),
+      search needs,
+      search needs,
+      search needs,
+      search needs,
+      search needs,
+    )
 
 place-next-requires : tie.Need-place-next-requires Inv-loop μ-loop
-place-next-requires c κs = (c .before .before .before .before .before .before .before .before .before .before .before .before .before .before .before .before .before .before .before .before .before .before .before .before .before .before .before .before .before .before .before .before .before .before .before .pre .0, search needs, search needs, c .before .before .before .before .before .before .loop .inv .2)
+place-next-requires c κs =
+    let in-loop = c .before .before .before .before .before in
+    let turn = in-loop .before in
+    let cover = turn .before .before .before .before .before .before in
+    let started = cover .before .before .before .before .before in
+    let read = started .before .before .before .before .before .before in
+    let shared = read .before .before .before .before .before .before .before in
+    let entry = shared .before .before .before .before .before in
+    (entry .pre .0, turn .loop .inv .0, omega (arith, in-loop .loop-test .taken, entry .pre .2), turn .loop .inv .2)
 
 add-i : tie.Need-add-i Inv-loop μ-loop
 add-i c =
-    let entry = c .before .before .before .before .before .before .before .before .before .before .before .before .before .before .before .before .before .before .before .before .before .before .before .before .before .before .before .before .before .before .before .before .before .before .before .before .before .before .before .before .before .before .before .before .before .before in
-    omega (arith, c .before .before .before .before .before .before .before .before .before .before .before .before .before .before .before .before .before .loop .inv .1, entry .pre .2, entry .pre .0 .most)
+    let cover2 = c .before .before .before .before .before in
+    let placed = cover2 .before .before .before .before .before in
+    let turn = placed .before .before .before .before .before .before .before in
+    let cover = turn .before .before .before .before .before .before in
+    let started = cover .before .before .before .before .before in
+    let read = started .before .before .before .before .before .before in
+    let shared = read .before .before .before .before .before .before .before in
+    let entry = shared .before .before .before .before .before in
+    omega (arith, turn .loop .inv .1, entry .pre .2, entry .pre .0 .most)
 
 loop-less : tie.Need-loop-less Inv-loop μ-loop
 loop-less c = search needs
 
 loop-again : tie.Need-loop-again Inv-loop μ-loop
-loop-again c = (search needs, search needs, c .before .before .before .before .before .before .before .before .before .before .place-next .ensures, search needs, search needs, search needs, search needs, search needs)
+loop-again c =
+    let cover2 = c .before .before .before .before .before in
+    let placed = cover2 .before .before .before .before .before in
+    (search needs, search needs, placed .place-next .ensures, search needs, search needs, search needs, search needs, search needs)
 
 same-length : tie.Need-same-length Inv-loop μ-loop
 same-length c = search needs
@@ -64,8 +99,16 @@ same-length-5 c = search needs
 
 returns : tie.Need-returns Inv-loop μ-loop
 returns c =
-    let entry = c .before .before .before .before .before .before .before .before .before .before .before .before .before .before .before .before .before .before .before .before .before .before .before .before .before .before .before .before .before .before in
-    let q : c .before .loop .i ≡ entry .args .k = omega arith in subst (λ (j : ℕ). Holds (entry .args .at .now) (entry .args .ents .now) (entry .args .vs .now) j (c .before .loop .ys) (c .before .loop .off) (c .before .loop .cover) (c .before .loop .left) (c .before .loop .right)) q (c .before .loop .inv .2)
+    let turn = c .before in
+    let cover = turn .before .before .before .before .before .before in
+    let started = cover .before .before .before .before .before in
+    let read = started .before .before .before .before .before .before in
+    let shared = read .before .before .before .before .before .before .before in
+    let entry = shared .before .before .before .before .before in
+    let args = entry .args in
+    let now = turn .loop in
+    let q : now .i ≡ args .k = omega arith in
+    subst (λ (j : ℕ). Holds (args .at .now) (args .ents .now) (args .vs .now) j (now .ys) (now .off) (now .cover) (now .left) (now .right)) q (now .inv .2)
 
 pub reach-spec : {M : Type 1} → statement M
 reach-spec =

@@ -11,8 +11,10 @@ is-before-requires c κs = search needs
 
 returns : tie.Need-returns
 returns c =
-    let entry = c .before .before .before .before .before .before .before .before in
-    record-waiting (entry .args .rank .now) (entry .args .k) (entry .args .xs .now) (entry .args .ys .now) (entry .args .cover .now) (entry .args .left .now) (entry .args .right .now) (entry .args .u) (c .before .is-before .result) (c .before .is-before .ensures) (c .if1 .taken)
+    let asked = c .before in
+    let of = asked .before .before .before .before .before .before .before .args in
+    record-waiting (of .rank .now) (of .k) (of .xs .now) (of .ys .now) (of .cover .now) (of .left .now) (of .right .now) (of .u) (asked .is-before .result)
+    (asked .is-before .ensures) (c .if1 .taken)
 
 number-requires : tie.Need-number-requires
 number-requires c κs = search needs
@@ -49,10 +51,13 @@ shared-slice-read-t28 c = search needs
 
 returns-2 : tie.Need-returns-2
 returns-2 c =
-    let entry = c .before .before .before .before .before .before .before .before .before .before .before .before .before .before .before in
-    let is-before = c .before .before .before .before .before .before .before .before .is-before in
-    let number = c .before .before .before .before .before .before .number in
-    record-on (entry .args .rank .now) (entry .args .k) (entry .args .xs .now) (entry .args .ys .now) (entry .args .cover .now) (entry .args .left .now) (entry .args .right .now) (entry .args .u) (is-before .result) (is-before .ensures) (c .before .before .before .before .before .before .before .if1 .left) (number .result) (number .ensures .0) (c .before .before .before .before .if2 .taken)
+    let bare = c .before .before .before .before in
+    let number = bare .before .before .number in
+    let standing = bare .before .before .before in
+    let asked = standing .before in
+    let of = asked .before .before .before .before .before .before .before .args in
+    record-on (of .rank .now) (of .k) (of .xs .now) (of .ys .now) (of .cover .now) (of .left .now) (of .right .now) (of .u) (asked .is-before .result)
+    (asked .is-before .ensures) (standing .if1 .left) (number .result) (number .ensures .0) (bare .if2 .taken)
 
 mul-t12 : tie.Need-mul-t12
 mul-t12 c = search needs
@@ -68,10 +73,13 @@ shared-slice-read-t33 c = search needs
 
 returns-3 : tie.Need-returns-3
 returns-3 c =
-    let entry = c .before .before .before .before .before .before .before .before .before .before .before .before .before in
-    let is-before = c .before .before .before .before .before .before .is-before in
-    let number = c .before .before .before .before .number in
-    record-covered (entry .args .rank .now) (entry .args .k) (entry .args .xs .now) (entry .args .ys .now) (entry .args .cover .now) (entry .args .left .now) (entry .args .right .now) (entry .args .u) (is-before .result) (is-before .ensures) (c .before .before .before .before .before .if1 .left) (number .result) (number .ensures .0) (c .before .before .if2 .left)
+    let covered = c .before .before in
+    let number = covered .before .before .number in
+    let standing = covered .before .before .before in
+    let asked = standing .before in
+    let of = asked .before .before .before .before .before .before .before .args in
+    record-covered (of .rank .now) (of .k) (of .xs .now) (of .ys .now) (of .cover .now) (of .left .now) (of .right .now) (of .u) (asked .is-before .result)
+    (asked .is-before .ensures) (standing .if1 .left) (number .result) (number .ensures .0) (covered .if2 .left)
 
 pub record-at-spec : {M : Type 1} → statement M
 record-at-spec =

@@ -3,18 +3,23 @@ use Rattle.engine.proofs.sheet_at.Statement.{statement}
 use Rattle.engine.proofs.sheet_at.Tie as tie
 use native.Mathlib.Omega.{arith}
 use Prim.Native.Nat.{ℕ}
-use Rattle.engine.proofs.Given.{stage-within, names-fit, sheet-is}
+use Rattle.engine.proofs.Told.{stage-within, names-fit, sheet-is}
 
 draw-requires : tie.Need-draw-requires
 draw-requires c κs = search needs
 
 write-sheet-requires : tie.Need-write-sheet-requires
 write-sheet-requires c κs =
-    let b = c .before .before .before .before .before .before .before .before .before .before .before .before .before .before .before .before .before .before .before .before .before .before .before .before .before .before .before .before .before .before .before .before .before .pre in (
+    let xs = c .before .before .before .before in
+    let cover = xs .before .before .before .before .before .before in
+    let drawn = cover .before .before .before .before .before in
+    let lent = drawn .before .before .before .before .before .before .before in
+    let shared = lent .before .before .before .before .before .before in
+    let b = shared .before .before .before .before .before .pre in (
       omega (arith, b .2),
       stage-within _ _ _ _ (b .0) _ (b .2),
       omega (arith, b .5),
-      λ (j : ℕ) l. names-fit _ _ _ _ (b .0) _ (b .1) (b .2) _ _ _ _ _ _ (c .before .before .before .before .before .before .before .before .before .before .before .before .before .before .before .draw .ensures) j (omega (arith, l)),
+      λ (j : ℕ) l. names-fit _ _ _ _ (b .0) _ (b .1) (b .2) _ _ _ _ _ _ (drawn .draw .ensures) j (omega (arith, l)),
     )
 
 same-length : tie.Need-same-length
@@ -40,8 +45,13 @@ same-length-7 c = search needs
 
 returns : tie.Need-returns
 returns c =
-    let entry = c .before .before .before .before .before .before .before .before .before .before .before .before .before .before .before .before .before .before .before .before .before .before .before .before .before .before .before .before .before .before .before .before .before .before .before .before in
-    sheet-is _ _ _ _ (entry .pre .0) _ (entry .pre .1) (entry .pre .2) _ _ _ _ _ _ (c .before .before .before .before .before .before .before .before .before .before .before .before .before .before .before .before .before .before .draw .ensures) _ _ (c .before .before .write-sheet .ensures)
+    let xs = c .before .before .before .before .before .before .before in
+    let cover = xs .before .before .before .before .before .before in
+    let drawn = cover .before .before .before .before .before in
+    let lent = drawn .before .before .before .before .before .before .before in
+    let shared = lent .before .before .before .before .before .before in
+    let entry = shared .before .before .before .before .before in
+    sheet-is _ _ _ _ (entry .pre .0) _ (entry .pre .1) (entry .pre .2) _ _ _ _ _ _ (drawn .draw .ensures) _ _ (c .before .before .write-sheet .ensures)
 
 pub sheet-at-spec : {M : Type 1} → statement M
 sheet-at-spec =

@@ -34,7 +34,15 @@ same-length-5 : tie.Need-same-length-5
 same-length-5 c = search needs
 
 returns : tie.Need-returns
-returns c = start-shows _ _ _ _ _ _ _ _ _ _ _ _ _ (c .before .before .before .before .before .before .before .before .before .before .before .before .before .before .before .before .before .before .before .before .before .before .before .before .before .pre) (c .before .before .before .before .before .before .before .before .before .before .before .before .before .before .before .before .before .before .put-corners .ensures) (c .before .before .before .before .before .before .before .before .before .before .before .before .before .before .put-corners2 .ensures) (c .before .before .before .before .before .before .before .before .before .before .put-corners3 .ensures) (c .before .before .before .before .before .before .put-corners4 .ensures) (c .before .before .put-corners5 .ensures)
+returns c =
+    let rights = c .before .before in
+    let lefts = rights .before .before .before .before in
+    let covers = lefts .before .before .before .before in
+    let offs = covers .before .before .before .before in
+    let heights = offs .before .before .before .before in
+    let entry = heights .before .before .before .before .before .before .before in
+    start-shows _ _ _ _ _ _ _ _ _ _ _ _ _ (entry .pre) (heights .put-corners .ensures) (offs .put-corners2 .ensures)
+    (covers .put-corners3 .ensures) (lefts .put-corners4 .ensures) (rights .put-corners5 .ensures)
 
 pub start-spec : {M : Type 1} → statement M
 start-spec =

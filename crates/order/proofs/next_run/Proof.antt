@@ -53,9 +53,11 @@ run-begins-requires c κs =
     let b = c .before .before .before .number2 .ensures .0 in
     let read = c .before .before .before .before .before in
     let v = read .number .ensures .0 in
-    let pre = read .before .before .before .before .before .before .pre in
-    (some-entry _ _ _ _ (pre .0) _ (pre .1) (pre .2) _ _ _ v b e, in-ents _ _ _ _ (pre .0) _ (pre .1) (pre .2) _ _ _ v b e,
-    in-rank _ _ _ _ (pre .0) _ (pre .1) (pre .2) _ _ _ v b e)
+    let pre = read .before .before .before .before .before .before .pre in (
+      some-entry _ _ _ _ (pre .0) _ (pre .1) (pre .2) _ _ _ v b e,
+      in-ents _ _ _ _ (pre .0) _ (pre .1) (pre .2) _ _ _ v b e,
+      in-rank _ _ _ _ (pre .0) _ (pre .1) (pre .2) _ _ _ v b e,
+    )
 
 add-count-before : tie.Need-add-count-before
 add-count-before c = search needs
@@ -67,8 +69,12 @@ count-before-requires c κs =
     let read = c .before .before .before .before .before .before in
     let v = read .number .ensures .0 in
     let pre = read .before .before .before .before .before .before .pre in
-    let some = some-entry _ _ _ _ (pre .0) _ (pre .1) (pre .2) _ _ _ v b e in
-    (omega (arith, some), in-ents _ _ _ _ (pre .0) _ (pre .1) (pre .2) _ _ _ v b e, named _ _ _ _ (pre .0) _ (pre .1) (pre .2) _ _ _ v b e, omega (arith, pre .2))
+    let some = some-entry _ _ _ _ (pre .0) _ (pre .1) (pre .2) _ _ _ v b e in (
+      omega (arith, some),
+      in-ents _ _ _ _ (pre .0) _ (pre .1) (pre .2) _ _ _ v b e,
+      named _ _ _ _ (pre .0) _ (pre .1) (pre .2) _ _ _ v b e,
+      omega (arith, pre .2),
+    )
 
 returns : tie.Need-returns
 returns c =
@@ -76,9 +82,10 @@ returns c =
     let b = c .before .before .before .before .before .number2 .ensures .0 in
     let read = c .before .before .before .before .before .before .before in
     let v = read .number .ensures .0 in
-    let pre = read .before .before .before .before .before .before .pre in
-    (first-is _ _ _ _ (pre .0) _ (pre .1) (pre .2) _ _ _ v b e _ (c .before .run-begins .ensures),
-    many-is _ _ _ _ (pre .0) _ (pre .1) (pre .2) _ _ _ v b e _ (c .count-before .ensures))
+    let pre = read .before .before .before .before .before .before .pre in (
+      first-is _ _ _ _ (pre .0) _ (pre .1) (pre .2) _ _ _ v b e _ (c .before .run-begins .ensures),
+      many-is _ _ _ _ (pre .0) _ (pre .1) (pre .2) _ _ _ v b e _ (c .count-before .ensures),
+    )
 
 pub next-run-spec : {M : Type 1} → statement M
 next-run-spec =

@@ -10,7 +10,8 @@ use Rattle.order.proofs.Opens.{opens-here, opens-next, opens-end}
 use borrow.Author.Needs.{needs}
 
 abbrev Inv-loop : tie.InvT-loop
-Inv-loop ents b e rank k v1 last₀ i₀ last i = (b ≤ i) × (i ≤ e) × (opens (before rank k) v1 last (slice i e ents) ≡ opens (before rank k) v1 (before rank k (getD ents (e - 1) 0)) (slice b e ents))
+Inv-loop ents b e rank k v1 last₀ i₀ last i = (b ≤ i) × (i ≤ e)
+    × (opens (before rank k) v1 last (slice i e ents) ≡ opens (before rank k) v1 (before rank k (getD ents (e - 1) 0)) (slice b e ents))
 
 abbrev μ-loop : tie.MeasureT-loop
 μ-loop ents b e rank k v1 last₀ i₀ last i = e - i
@@ -52,10 +53,12 @@ shared-slice-read-result c = search needs
 
 returns : tie.Need-returns Inv-loop μ-loop
 returns c =
-    let entry = c .before .before .before .before .before .before .before .before .before .before .before in
-    let loop = c .before .before .before .before .before .before .loop in
-    let is-before2 = c .before .before .before .is-before2 in
-    sym (opens-here _ _ _ (entry .args .ents .now) (loop .i) (entry .args .e) (omega arith) (omega arith) (is-before2 .result) (c .before .before .is-opening .result) (is-before2 .ensures) (c .before .before .is-opening .ensures) (c .before .if1 .taken)) ∙ loop .inv .2
+    let opening = c .before .before in
+    let here = opening .before .is-before2 in
+    let turn = opening .before .before .before .before in
+    let entry = turn .before .before .before .before .before in
+    sym (opens-here _ _ _ (entry .args .ents .now) (turn .loop .i) (entry .args .e) (omega arith) (omega arith) (here .result)
+    (opening .is-opening .result) (here .ensures) (opening .is-opening .ensures) (c .before .if1 .taken)) ∙ turn .loop .inv .2
 
 add-i : tie.Need-add-i Inv-loop μ-loop
 add-i c = search needs
@@ -65,9 +68,13 @@ loop-less c = search needs
 
 loop-again : tie.Need-loop-again Inv-loop μ-loop
 loop-again c =
-    let entry = c .before .before .before .before .before .before .before .before .before .before in
-    let loop = c .before .before .before .before .before .loop in
-    (search needs, search needs, sym (opens-next _ _ _ (entry .args .ents .now) (loop .i) (entry .args .e) (omega arith) (omega arith) (c .before .before .is-before2 .result) (c .before .is-opening .result) (c .before .before .is-before2 .ensures) (c .before .is-opening .ensures) (c .if1 .left)) ∙ loop .inv .2)
+    let opening = c .before in
+    let here = opening .before .is-before2 in
+    let turn = opening .before .before .before .before in
+    let entry = turn .before .before .before .before .before in
+    let next = opens-next _ _ _ (entry .args .ents .now) (turn .loop .i) (entry .args .e) (omega arith) (omega arith) (here .result)
+    (opening .is-opening .result) (here .ensures) (opening .is-opening .ensures) (c .if1 .left) in
+    (search needs, search needs, sym next ∙ turn .loop .inv .2)
 
 returns-2 : tie.Need-returns-2 Inv-loop μ-loop
 returns-2 c =

@@ -28,7 +28,11 @@ mul-buffer : tie.Need-mul-buffer Inv-loop μ-loop
 mul-buffer c = search needs
 
 shared-slice-read-buffer : tie.Need-shared-slice-read-buffer Inv-loop μ-loop
-shared-slice-read-buffer c = let f = c .before .before .before .before .before .before .before .before .before .pre .3 (c .before .before .before .before .loop .i) (search needs) in rw (c .before .number .ensures .0) (omega (arith, f .0, f .1))
+shared-slice-read-buffer c =
+    let turn = c .before .before .before .before in
+    let entry = turn .before .before .before .before .before in
+    let f = entry .pre .3 (turn .loop .i) (search needs) in
+    rw (c .before .number .ensures .0) (omega (arith, f .0, f .1))
 
 mul-buffer-2 : tie.Need-mul-buffer-2 Inv-loop μ-loop
 mul-buffer-2 c = search needs
@@ -43,7 +47,11 @@ mul-buffer-4 : tie.Need-mul-buffer-4 Inv-loop μ-loop
 mul-buffer-4 c = search needs
 
 shared-slice-read-buffer-2 : tie.Need-shared-slice-read-buffer-2 Inv-loop μ-loop
-shared-slice-read-buffer-2 c = let f = c .before .before .before .before .before .before .before .before .before .before .pre .3 (c .before .before .before .before .before .loop .i) (search needs) in rw (c .before .before .number .ensures .0) (omega (arith, f .0, f .1))
+shared-slice-read-buffer-2 c =
+    let turn = c .before .before .before .before .before in
+    let entry = turn .before .before .before .before .before in
+    let f = entry .pre .3 (turn .loop .i) (search needs) in
+    rw (c .before .before .number .ensures .0) (omega (arith, f .0, f .1))
 
 mul-buffer-5 : tie.Need-mul-buffer-5 Inv-loop μ-loop
 mul-buffer-5 c = search needs
@@ -65,8 +73,9 @@ loop-less c = search needs
 
 loop-again : tie.Need-loop-again Inv-loop μ-loop
 loop-again c =
-    let entry = c .before .before .before .before .before .before .before .before .before .before in
-    write-again _ _ _ _ _ _ _ (c .before .before .before .before .before .loop .inv) (search needs) (entry .pre .0) (entry .pre .2) _ (c .before .before .number .ensures .0)
+    let turn = c .before .before .before .before .before in
+    let entry = turn .before .before .before .before .before in
+    write-again _ _ _ _ _ _ _ (turn .loop .inv) (search needs) (entry .pre .0) (entry .pre .2) _ (c .before .before .number .ensures .0)
 
 same-length : tie.Need-same-length Inv-loop μ-loop
 same-length c = c .before .loop .inv .same

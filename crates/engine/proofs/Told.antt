@@ -19,7 +19,7 @@ use Rattle.rings.specs.Held.{held}
 use Rattle.rings.proofs.Around.{After}
 use Rattle.order.proofs.Contour.{Contour}
 use Rattle.order.proofs.Fitting.{fits-few}
-use Rattle.placing.specs.Stages.{stage}
+use Rattle.placing.specs.Stages.{Stage, stage}
 use Rattle.placing.specs.Records.{leftOf, rightOf, standing, recordOf, entriesOf}
 use Rattle.placing.specs.declared.Standing.the-variants.{Waiting, OnContour, Covered}
 use Rattle.placing.proofs.Steps.{contours, stage-placed}
@@ -80,7 +80,8 @@ some-right x (y ∷ l) u (inr i) = go (some-right y l u i)
     go (inr w) = inr (w .0, inr (w .1))
 
 -- ---- entries
-pairs-same : (xs ys : List ℕ) (f g : ℕ → ℕ) (l : List ℕ) → ((u : ℕ) → In u l → (getD xs u 0 ≡ f u) × (getD ys u 0 ≡ g u)) → pairs xs ys l ≡ flatMap (λ u. f u ∷ g u ∷ []) l
+pairs-same : (xs ys : List ℕ) (f g : ℕ → ℕ) (l : List ℕ) → ((u : ℕ) → In u l → (getD xs u 0 ≡ f u) × (getD ys u 0 ≡ g u))
+    → pairs xs ys l ≡ flatMap (λ u. f u ∷ g u ∷ []) l
 unfolding pairs flatMap
 pairs-same xs ys f g [] h = refl
 pairs-same xs ys f g (u ∷ l) h = let e = h u (inl refl) in rw (e .0, e .1, pairs-same xs ys f g l (λ w i. h w (inr i))) refl
@@ -94,29 +95,32 @@ module _ (at ents vs rank : List ℕ) (A : Fitted at ents vs rank) (k : ℕ) (h 
   abbrev G : List (List ℕ)
   G = held at ents
 
-  abbrev S : Shows (stage (held at ents) (take k vs)) ys off cover left right
+  abbrev t : Stage
+  t = stage (held at ents) (take k vs)
+
+  abbrev S : Shows t ys off cover left right
   S = D .holds .shows
 
-  placed-is : stage (held at ents) (take k vs) .placed ≡ take k vs
+  placed-is : t .placed ≡ take k vs
   placed-is = stage-placed G vs k h i
 
-  pub entries-are : pairs xs ys (take k vs) ≡ entriesOf (stage (held at ents) (take k vs))
+  pub entries-are : pairs xs ys (take k vs) ≡ entriesOf t
   unfolding entriesOf
   entries-are =
       ap (pairs xs ys) (sym placed-is)
-      ∙ pairs-same xs ys (stage (held at ents) (take k vs) .x) (stage (held at ents) (take k vs) .y) (stage (held at ents) (take k vs) .placed) (λ u q. (D .column u q, S .height u q))
+      ∙ pairs-same xs ys (t .x) (t .y) (t .placed) (λ u q. (D .column u q, S .height u q))
 
-  C : Contour (After (held at ents)) (post vs 1) (post vs 2) (take k vs) (stage (held at ents) (take k vs) .contour)
+  C : Contour (After G) (post vs 1) (post vs 2) (take k vs) (t .contour)
   C = contours G (A .vn) vs (A .plane) (A .fits) k h i
 
-  v1-is : post (stage (held at ents) (take k vs) .placed) 1 ≡ post vs 1
+  v1-is : post (t .placed) 1 ≡ post vs 1
   v1-is = ap (λ (l : List ℕ). post l 1) placed-is ∙ getD-take k vs 0 0 (omega arith)
 
-  v2-is : post (stage (held at ents) (take k vs) .placed) 2 ≡ post vs 2
+  v2-is : post (t .placed) 2 ≡ post vs 2
   v2-is = ap (λ (l : List ℕ). post l 2) placed-is ∙ getD-take k vs 1 0 (omega arith)
 
-  left-at : (u : ℕ) → In u (stage (held at ents) (take k vs) .contour) → getD left u 0 ≡ leftOf (stage (held at ents) (take k vs) .contour) u
-  left-at u q = go (stage (held at ents) (take k vs) .contour) (C .first) (C .once) q (λ a. S .left-is a u)
+  left-at : (u : ℕ) → In u (t .contour) → getD left u 0 ≡ leftOf (t .contour) u
+  left-at u q = go (t .contour) (C .first) (C .once) q (λ a. S .left-is a u)
     where
       go : (l : List ℕ) → Head l (post vs 1) → Once l → In u l → ((a : ℕ) → Adj l a u → getD left u 0 ≡ a) → getD left u 0 ≡ leftOf l u
       go [] f o z s = absurd z
@@ -124,12 +128,12 @@ module _ (at ents vs rank : List ℕ) (A : Fitted at ents vs rank) (k : ℕ) (h 
         where
           by : (u ≡ x) ⊎ ((a : ℕ) × Adj (x ∷ l) a u) → getD left u 0 ≡ leftOf (x ∷ l) u
           by (inl e) =
-              let v : u ≡ post (stage (held at ents) (take k vs) .placed) 1 = e ∙ f ∙ sym v1-is in
+              let v : u ≡ post (t .placed) 1 = e ∙ f ∙ sym v1-is in
               subst⁻¹ (λ (a : ℕ). getD left a 0 ≡ a) v (S .first) ∙ sym (left-first x l u (λ m. o .0 (rw e at m)))
           by (inr w) = s (w .0) (w .1) ∙ sym (left-adj (x ∷ l) (w .0) u o (w .1))
 
-  right-at : (u : ℕ) → In u (stage (held at ents) (take k vs) .contour) → getD right u 0 ≡ rightOf (stage (held at ents) (take k vs) .contour) u
-  right-at u q = go (stage (held at ents) (take k vs) .contour) (C .last) (C .once) q (λ b. S .right-is u b)
+  right-at : (u : ℕ) → In u (t .contour) → getD right u 0 ≡ rightOf (t .contour) u
+  right-at u q = go (t .contour) (C .last) (C .once) q (λ b. S .right-is u b)
     where
       go : (l : List ℕ) → lastOf (post vs 1) l ≡ post vs 2 → Once l → In u l → ((b : ℕ) → Adj l u b → getD right u 0 ≡ b) → getD right u 0 ≡ rightOf l u
       go [] f o z s = absurd z
@@ -137,51 +141,52 @@ module _ (at ents vs rank : List ℕ) (A : Fitted at ents vs rank) (k : ℕ) (h 
         where
           by : (u ≡ lastOf x l) ⊎ ((b : ℕ) × Adj (x ∷ l) u b) → getD right u 0 ≡ rightOf (x ∷ l) u
           by (inl e) =
-              let v : u ≡ post (stage (held at ents) (take k vs) .placed) 2 = e ∙ f ∙ sym v2-is in
+              let v : u ≡ post (t .placed) 2 = e ∙ f ∙ sym v2-is in
               subst⁻¹ (λ (a : ℕ). getD right a 0 ≡ a) v (S .last) ∙ subst⁻¹ (λ (a : ℕ). a ≡ rightOf (x ∷ l) a) e (sym (right-last x l o))
           by (inr w) = s (w .0) (w .1) ∙ sym (right-adj (x ∷ l) u (w .0) o (w .1))
 
   -- nobody covers himself
-  other : (u : ℕ) → In u (stage (held at ents) (take k vs) .placed) → ¬ (In u (stage (held at ents) (take k vs) .contour)) → ¬ (getD cover u 0 ≡ u)
+  other : (u : ℕ) → In u (t .placed) → ¬ (In u (t .contour)) → ¬ (getD cover u 0 ≡ u)
   other u q n e =
       let w = in-take k vs u (subst (In u) placed-is q) in
-      let l = later at ents vs rank A k h i ys off cover left right (D .holds) xs (D .roomy) (w .0) (w .1) (λ c. n (subst (λ (a : ℕ). In a (stage (held at ents) (take k vs) .contour)) (w .3) c)) in
-      let f : getD vs (l .0) 0 ≡ getD vs (w .0) 0 = l .3 ∙ ap (stage (held at ents) (take k vs) .cover) (w .3) ∙ sym (S .covers u q n) ∙ e ∙ sym (w .3) in
+      let l = later at ents vs rank A k h i ys off cover left right (D .holds) xs (D .roomy) (w .0) (w .1)
+      (λ c. n (subst (λ (a : ℕ). In a (t .contour)) (w .3) c)) in
+      let f : getD vs (l .0) 0 ≡ getD vs (w .0) 0 = l .3 ∙ ap (t .cover) (w .3) ∙ sym (S .covers u q n) ∙ e ∙ sym (w .3) in
       let d = A .fits .once (l .0) (w .0) (omega (arith, l .2)) (w .2) f in
       omega (arith, l .1)
 
-  stands : (u : ℕ) → In u (stage (held at ents) (take k vs) .placed)
-      → cond (eqb (getD cover u 0) u) (OnContour (getD left u 0) (getD right u 0)) (Covered (getD cover u 0)) ≡ standing (stage (held at ents) (take k vs)) u
+  stands : (u : ℕ) → In u (t .placed)
+      → cond (eqb (getD cover u 0) u) (OnContour (getD left u 0) (getD right u 0)) (Covered (getD cover u 0)) ≡ standing t u
   unfolding standing
-  stands u q = go (in-dec u (stage (held at ents) (take k vs) .contour))
+  stands u q = go (in-dec u (t .contour))
     where
-      go : Dec (In u (stage (held at ents) (take k vs) .contour))
+      go : Dec (In u (t .contour))
           → cond (eqb (getD cover u 0) u) (OnContour (getD left u 0) (getD right u 0)) (Covered (getD cover u 0))
-          ≡ cond (mem (stage (held at ents) (take k vs) .contour) u) (OnContour (leftOf (stage (held at ents) (take k vs) .contour) u) (rightOf (stage (held at ents) (take k vs) .contour) u))
-          (cond (mem (stage (held at ents) (take k vs) .placed) u) (Covered (stage (held at ents) (take k vs) .cover u)) Waiting)
-      go (yes c) = rw (is-true (mem (stage (held at ents) (take k vs) .contour) u) (in-mem (stage (held at ents) (take k vs) .contour) u c), eq-eqb (getD cover u 0) u (S .bare u c), left-at u c, right-at u c) refl
+          ≡ cond (mem (t .contour) u) (OnContour (leftOf (t .contour) u) (rightOf (t .contour) u))
+          (cond (mem (t .placed) u) (Covered (t .cover u)) Waiting)
+      go (yes c) = rw (is-true (mem (t .contour) u) (in-mem (t .contour) u c), eq-eqb (getD cover u 0) u (S .bare u c), left-at u c, right-at u c) refl
       go (no n) =
           rw (
-            is-false (mem (stage (held at ents) (take k vs) .contour) u) (λ m. n (mem-in (stage (held at ents) (take k vs) .contour) u m)),
-            is-true (mem (stage (held at ents) (take k vs) .placed) u) (in-mem (stage (held at ents) (take k vs) .placed) u q),
+            is-false (mem (t .contour) u) (λ m. n (mem-in (t .contour) u m)),
+            is-true (mem (t .placed) u) (in-mem (t .placed) u q),
             ne-eqb (getD cover u 0) u (other u q n),
             S .covers u q n,
           ) refl
 
-  pub record-is : (u : ℕ) → u < length (held at ents) → recordBy rank k xs ys cover left right u ≡ recordOf (stage (held at ents) (take k vs)) u
+  pub record-is : (u : ℕ) → u < length G → recordBy rank k xs ys cover left right u ≡ recordOf t u
   unfolding recordOf
-  record-is u l = go (in-dec u (stage (held at ents) (take k vs) .placed))
+  record-is u l = go (in-dec u (t .placed))
     where
-      t : mem (stage (held at ents) (take k vs) .placed) u ≡ before rank (k + 1) u
-      t = ap (λ (r : List ℕ). mem r u) placed-is ∙ placed-by (length (held at ents)) vs rank (A .ranked) k i u l
+      is-placed : mem (t .placed) u ≡ before rank (k + 1) u
+      is-placed = ap (λ (r : List ℕ). mem r u) placed-is ∙ placed-by (length G) vs rank (A .ranked) k i u l
 
-      go : Dec (In u (stage (held at ents) (take k vs) .placed)) → recordBy rank k xs ys cover left right u
-          ≡ cond (mem (stage (held at ents) (take k vs) .placed) u)
-          (record { x = stage (held at ents) (take k vs) .x u; y = stage (held at ents) (take k vs) .y u; standing = standing (stage (held at ents) (take k vs)) u }) (record { x = 0; y = 0; standing = Waiting })
+      go : Dec (In u (t .placed)) → recordBy rank k xs ys cover left right u
+          ≡ cond (mem (t .placed) u)
+          (record { x = t .x u; y = t .y u; standing = standing t u }) (record { x = 0; y = 0; standing = Waiting })
       go (yes q) =
-          let e = is-true (mem (stage (held at ents) (take k vs) .placed) u) (in-mem (stage (held at ents) (take k vs) .placed) u q) in
-          rw (← t, e, D .column u q, S .height u q, stands u q) refl
-      go (no n) = rw (← t, is-false (mem (stage (held at ents) (take k vs) .placed) u) (λ m. n (mem-in (stage (held at ents) (take k vs) .placed) u m))) refl
+          let e = is-true (mem (t .placed) u) (in-mem (t .placed) u q) in
+          rw (← is-placed, e, D .column u q, S .height u q, stands u q) refl
+      go (no n) = rw (← is-placed, is-false (mem (t .placed) u) (λ m. n (mem-in (t .placed) u m))) refl
 
   -- the posts placed have room
   pub names-fit : (j : ℕ) → j < k → (getD vs j 0 < length xs) × (getD vs j 0 < length ys)
@@ -189,10 +194,11 @@ module _ (at ents vs rank : List ℕ) (A : Fitted at ents vs rank) (k : ℕ) (h 
       let b = A .fits .below (getD vs j 0) (place-in vs j (omega arith)) in
       (omega (arith, D .roomy), omega (arith, D .holds .room .of-ys))
 
-  pub sheet-is : (B B' : List ℕ) → B' ≡ pairs xs ys (take k vs) ++ drop (2 * k) B → B' ≡ entriesOf (stage (held at ents) (take k vs)) ++ drop (2 * k) B
+  pub sheet-is : (B B' : List ℕ) → B' ≡ pairs xs ys (take k vs) ++ drop (2 * k) B → B' ≡ entriesOf t ++ drop (2 * k) B
   sheet-is B B' e = e ∙ ap (λ (l : List ℕ). l ++ drop (2 * k) B) entries-are
 
-  pub record-ready : (u : ℕ) → u < length (held at ents) → (k ≤ limit) × (u < length rank) × (u < length xs) × (u < length ys) × (u < length cover) × (u < length left) × (u < length right)
+  pub record-ready : (u : ℕ) → u < length G → (k ≤ limit) × (u < length rank) × (u < length xs) × (u < length ys) × (u < length cover)
+      × (u < length left) × (u < length right)
   record-ready u l =
       let W = D .holds .room in (
         stage-within at ents vs rank A k i,
