@@ -30,8 +30,8 @@ part-words : (s : List ℕ) (a d m i : ℕ) → a + d ≤ m → slice a (a + d) 
 part-words s a d m i h = ap (drop a) (take-words s (a + d) m i h) ∙ drop-words s a d i
 
 -- lists that begin at the running sums of their degrees
-held-lists : (s : List ℕ) (i m : ℕ) (ds at : List ℕ) (o : ℕ) → length at ≡ length ds + 1 → ((u : ℕ) → u ≤ length ds → getD at u 0 ≡ o + sumOf (take u ds)) → o + sumOf ds ≤ m
-    → held at (wordsAt s i m) ≡ listsFrom s (i + 2 * o) ds
+held-lists : (s : List ℕ) (i m : ℕ) (ds at : List ℕ) (o : ℕ) → length at ≡ length ds + 1
+    → ((u : ℕ) → u ≤ length ds → getD at u 0 ≡ o + sumOf (take u ds)) → o + sumOf ds ≤ m → held at (wordsAt s i m) ≡ listsFrom s (i + 2 * o) ds
 unfolding held listsFrom sumOf
 held-lists s i m [] [] o l f h = absurd (omega arith)
 held-lists s i m [] (a ∷ []) o l f h = refl
@@ -43,7 +43,8 @@ held-lists s i m (d ∷ ds) (a ∷ b ∷ at) o l f h =
     let q : b ≡ o + d = omega (arith, f 1 (omega arith)) in
     let z : i + 2 * (o + d) ≡ i + 2 * o + 2 * d = omega arith in
     let r = held-lists s i m ds (b ∷ at) (o + d) (omega arith) (λ u k. omega (arith, f (suc u) (omega arith))) (omega arith) in
-    ap (λ (y : List ℕ). y ∷ held (b ∷ at) (wordsAt s i m)) (ap (λ (y : ℕ). slice y b (wordsAt s i m)) p ∙ ap (λ (y : ℕ). slice o y (wordsAt s i m)) q ∙ part-words s o d m i (omega arith))
+    let first = ap (λ (y : ℕ). slice y b (wordsAt s i m)) p ∙ ap (λ (y : ℕ). slice o y (wordsAt s i m)) q ∙ part-words s o d m i (omega arith) in
+    ap (λ (y : List ℕ). y ∷ held (b ∷ at) (wordsAt s i m)) first
     ∙ ap (λ (y : List (List ℕ)). wordsAt s (i + 2 * o) d ∷ y) (r ∙ ap (λ (y : ℕ). listsFrom s y ds) z)
 
 -- the sum of one degree more
@@ -66,8 +67,8 @@ module _ (s at ents ds : List ℕ) (n i : ℕ) (is : n ≡ posts s) (ei : i ≡ 
   unfolding lists
   read-lists =
       let e : i + 2 * 0 ≡ listsAt (posts s) = omega (arith, ei, is) in
-      rw unpacked
-      (held-lists s i (entries n) ds (take (n + 1) at) 0 (omega (arith, long, all)) (λ u h. omega (arith, at-is u (omega (arith, all)))) (omega (arith, total)) ∙ ap (λ (y : ℕ). listsFrom s y ds) e ∙ ap (listsFrom s (listsAt (posts s))) ed)
+      let read = held-lists s i (entries n) ds (take (n + 1) at) 0 (omega (arith, long, all)) (λ u h. omega (arith, at-is u (omega (arith, all)))) in
+      rw unpacked (read (omega (arith, total)) ∙ ap (λ (y : ℕ). listsFrom s y ds) e ∙ ap (listsFrom s (listsAt (posts s))) ed)
 
   pub read-cuts : Cuts (take (n + 1) at) (take (entries n) ents)
   read-cuts =

@@ -195,8 +195,10 @@ pub fn is_outer(ents: &[u16], at: &[u16], v1: u16, v2: u16, vn: u16) -> bool
 
 // at and ents become the block's neighbour lists, with the degrees ds that total 6n-12.
 pub fn read_lists(s: &[u8], b: block::Block, ds: &[u16], at: &mut [u16], ents: &mut [u16])
-    requires { ⌜ Headed (now s) (b .n) × (now ds ≡ degrees (now s)) × (sumOf (now ds) ≡ entries (b .n)) × (limit < length (now at)) × (entries limit ≤ length (now ents)) ⌝ }
-    ensures { λ r. ⌜ (held (take (b .n + 1) (now (at .exit))) (take (entries (b .n)) (now (ents .exit))) ≡ lists (now (s .entry))) × Cuts (take (b .n + 1) (now (at .exit))) (take (entries (b .n)) (now (ents .exit))) ⌝ }
+    requires { ⌜ Headed (now s) (b .n) × (now ds ≡ degrees (now s)) × (sumOf (now ds) ≡ entries (b .n))
+        × (limit < length (now at)) × (entries limit ≤ length (now ents)) ⌝ }
+    ensures { λ r. ⌜ (held (take (b .n + 1) (now (at .exit))) (take (entries (b .n)) (now (ents .exit))) ≡ lists (now (s .entry)))
+        × Cuts (take (b .n + 1) (now (at .exit))) (take (entries (b .n)) (now (ents .exit))) ⌝ }
 {
     block::starts(ds, at);
     words::unpack(s, b.lists_at(), b.entries(), ents);
