@@ -11,8 +11,8 @@ ghost use Rattle.lamp.specs.Lamp.{orderRows, degreeRows};
 ghost use Rattle.lamp.specs.Given.{replyOf, given, checkReply};
 ghost use Rattle.lamp.specs.Loaded.{loadRows, loadedRows, Wide, Loaded, Trimmed, Entered, LoadedIf, RankedIf, CheckedIf};
 
-mod board;
-mod header;
+mod frame;
+mod rules;
 
 use block::Block;
 
@@ -140,12 +140,12 @@ fn order_and_board(s: &[u8], vs: &[u16], at: &[u16], ents: &[u16], rank: &mut [u
     requires { ⌜ Trimmed (now s) (now vs) (now at) (now ents) × (limit ≤ length (now rank)) × Entered (now s) ⌝ }
     ensures { λ r. ⌜ (replyOf r ≡ given (loadedRows (now (s .entry))) (now (s .entry)) posts) × RankedIf r (now (s .entry)) (now (rank .exit)) ⌝ }
 {
-    let r = board::board(s, vs, at, ents);
+    let r = rules::board(s, vs, at, ents);
     let Answer::Accepted(_) = r else {
         return r;
     };
     order::ranks(vs, rank);
-    board::fitting(s, vs, at, ents, rank)
+    rules::fitting(s, vs, at, ents, rank)
 }
 
 // The same, for longer arrays.
@@ -194,7 +194,7 @@ pub fn check_into(
     ensures { λ r. ⌜ (replyOf r ≡ checkReply (now (s .entry)))
         × CheckedIf r (now (s .entry)) (now (vs .exit)) (now (at .exit)) (now (ents .exit)) (now (rank .exit)) ⌝ }
 {
-    let h = header::header(s);
+    let h = frame::header(s);
     let Answer::Accepted(posts) = h else {
         return h;
     };

@@ -1,6 +1,6 @@
 use borrow.Author.Needs.{needs}
-use Rattle.lamp.proofs.board.position.Statement.{statement}
-use Rattle.lamp.proofs.board.position.Tie as tie
+use Rattle.lamp.proofs.rules.position.Statement.{statement}
+use Rattle.lamp.proofs.rules.position.Tie as tie
 use mathlib.Core.Path.{_≡_, sym, ap, _∙_}
 use Rattle.order.specs.declared.Fit.{Fit}
 use Rattle.lamp.specs.Given.{replyOf}

@@ -1,5 +1,5 @@
-use Rattle.lamp.proofs.board.fitting.Statement.{statement}
-use Rattle.lamp.proofs.board.fitting.Tie as tie
+use Rattle.lamp.proofs.rules.fitting.Statement.{statement}
+use Rattle.lamp.proofs.rules.fitting.Tie as tie
 use native.Mathlib.Omega.{arith}
 use Prim.Native.Nat.{_+_, _-_, _≤_}
 use mathlib.Core.Path.{_≡_, refl, sym, ap, _∙_}

@@ -1,6 +1,6 @@
 use borrow.Author.Needs.{needs}
-use Rattle.lamp.proofs.header.opening.Statement.{statement}
-use Rattle.lamp.proofs.header.opening.Tie as tie
+use Rattle.lamp.proofs.frame.opening.Statement.{statement}
+use Rattle.lamp.proofs.frame.opening.Tie as tie
 use mathlib.Core.Path.{sym, _∙_}
 use borrow.Author.Tests.{not-true, not-false}
 use Rattle.lamp.specs.Lamp.{openingRows}

@@ -1,6 +1,6 @@
 use borrow.Author.Needs.{needs}
-use Rattle.lamp.proofs.board.board.Statement.{statement}
-use Rattle.lamp.proofs.board.board.Tie as tie
+use Rattle.lamp.proofs.rules.board.Statement.{statement}
+use Rattle.lamp.proofs.rules.board.Tie as tie
 use mathlib.Core.Path.{_∙_}
 use mathlib.Core.List.{_++_}
 use Rattle.lamp.specs.Lamp.{ringRows, triangleRows, outerRows}

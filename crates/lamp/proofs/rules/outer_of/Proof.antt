@@ -1,6 +1,6 @@
 use borrow.Author.Needs.{needs}
-use Rattle.lamp.proofs.board.outer_of.Statement.{statement}
-use Rattle.lamp.proofs.board.outer_of.Tie as tie
+use Rattle.lamp.proofs.rules.outer_of.Statement.{statement}
+use Rattle.lamp.proofs.rules.outer_of.Tie as tie
 use borrow.Author.Tests.{not-true, not-false}
 use Rattle.lamp.specs.Lamp.{outerRows}
 use Rattle.lamp.proofs.Steps.{none-stops}

@@ -1,6 +1,6 @@
 use borrow.Author.Needs.{needs}
-use Rattle.lamp.proofs.header.sized.Statement.{statement}
-use Rattle.lamp.proofs.header.sized.Tie as tie
+use Rattle.lamp.proofs.frame.sized.Statement.{statement}
+use Rattle.lamp.proofs.frame.sized.Tie as tie
 use native.Mathlib.Omega.{arith}
 use mathlib.Core.Path.{sym, ap, _∙_}
 use Rattle.block.specs.Layout.{size}

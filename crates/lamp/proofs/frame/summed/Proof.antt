@@ -1,6 +1,6 @@
 use borrow.Author.Needs.{needs}
-use Rattle.lamp.proofs.header.summed.Statement.{statement}
-use Rattle.lamp.proofs.header.summed.Tie as tie
+use Rattle.lamp.proofs.frame.summed.Statement.{statement}
+use Rattle.lamp.proofs.frame.summed.Tie as tie
 use Prim.Native.Nat.{ℕ}
 use mathlib.Core.Path.{_≡_, sym, ap, _∙_}
 use lib.ListN.{take}

@@ -1,6 +1,6 @@
 use borrow.Author.Needs.{needs}
-use Rattle.lamp.proofs.board.rings_of.Statement.{statement}
-use Rattle.lamp.proofs.board.rings_of.Tie as tie
+use Rattle.lamp.proofs.rules.rings_of.Statement.{statement}
+use Rattle.lamp.proofs.rules.rings_of.Tie as tie
 use Rattle.lamp.specs.Lamp.{ringRows}
 use Rattle.lamp.proofs.Steps.{none-stops}
 use Rattle.lamp.proofs.Boards.{ring-bad, rings-pass}

@@ -1,6 +1,6 @@
 use borrow.Author.Needs.{needs}
-use Rattle.lamp.proofs.header.header.Statement.{statement}
-use Rattle.lamp.proofs.header.header.Tie as tie
+use Rattle.lamp.proofs.frame.header.Statement.{statement}
+use Rattle.lamp.proofs.frame.header.Tie as tie
 use mathlib.Core.Path.{_∙_}
 use mathlib.Core.List.{_++_}
 use Rattle.lamp.specs.Lamp.{openingRows, sizeRows, sumRows}

@@ -1,6 +1,6 @@
 use borrow.Author.Needs.{needs}
-use Rattle.lamp.proofs.board.triangles_of.Statement.{statement}
-use Rattle.lamp.proofs.board.triangles_of.Tie as tie
+use Rattle.lamp.proofs.rules.triangles_of.Statement.{statement}
+use Rattle.lamp.proofs.rules.triangles_of.Tie as tie
 use Rattle.lamp.specs.Lamp.{triangleRows}
 use Rattle.lamp.proofs.Steps.{none-stops}
 use Rattle.lamp.proofs.Boards.{triangle-bad, triangles-pass}
