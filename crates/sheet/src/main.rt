@@ -1,7 +1,6 @@
-// Reads all of standard input as one block and prints its last stage, or the refusal. Of an input longer than 65,536 bytes that many are
-// enough: every length beyond the longest block gets the same reply.
+// Reads standard input as one block and prints its last stage, or the refusal.
 fn main() {
-    let mut block = io::large_buffer();
+    let mut block = show::no_bytes();
     let n = io::read_full(0, &mut block);
     show::last_sheet(&block[..n]);
 }

@@ -20,6 +20,13 @@ pub fn text(t: &[u8]) {
     io::write_all(STDOUT_FILENO, t);
 }
 
+// What a program reads of its input: a byte more than the longest block has. Every longer input gets the same reply.
+const READ: usize = Block::LONGEST + 1;
+
+pub fn no_bytes() -> [u8; READ] {
+    [0u8; READ]
+}
+
 // A space and a number.
 pub fn number(x: u16) {
     io::write_all(STDOUT_FILENO, b" ");

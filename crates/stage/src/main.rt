@@ -1,4 +1,4 @@
-// Reads all of standard input as one block and prints the stage that the argument names, or the refusal.
+// Reads standard input as one block and prints the stage that the argument names, or the refusal.
 ghost use mathlib.Core.Path.{_≡_};
 ghost use Prim.Native.Nat.{_≤_, _<_};
 
@@ -52,7 +52,7 @@ fn main() {
             b"usage: stage K < block, with K the stage, from 3 to the number of posts\n",
         ),
         Word::Number(k) => {
-            let mut block = io::large_buffer();
+            let mut block = show::no_bytes();
             let n = io::read_full(0, &mut block);
             show::sheet(&block[..n], k);
         }
