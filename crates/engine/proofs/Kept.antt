@@ -119,8 +119,8 @@ module _ (G : List (List ℕ)) (t : Stage) (v : ℕ) (s : Step G t v) (K : Kept 
       go (yes a) (yes b) = omega (arith, moved-1 u h a b, moved-1 (t .cover u) hw (omega (arith, e)) (omega (arith, e)))
       go (yes a) (no b) = omega (arith, moved-2 u h (omega arith), moved-2 (t .cover u) hw (omega (arith, e)))
 
-  pub moves : StepMoves G t v s
-  moves =
+  pub step-moves : StepMoves G t v s
+  step-moves =
       let pq = ends t (s .X) (s .p) (s .M) (s .q) (s .Y) D in
       record {
         stays = stays;

@@ -14,7 +14,7 @@ use Rattle.words.proofs.Lists.{in-cases, in-left, in-right}
 use Rattle.drawing.proofs.Build.{Build, post, Post, on-contour}
 use Rattle.shift.proofs.Groups.{sides}
 use Rattle.shift.proofs.Group.{Regroup, Moved, lo, mi, hi, moved}
-use Rattle.shift.proofs.Shifting.{Shifts, laid}
+use Rattle.shift.proofs.Shifting.{Shifts, laid-next}
 use Rattle.shift.proofs.Drawn.{places, Drawn}
 use Rattle.placing.proofs.Placed.{movedBy}
 use Rattle.shift.proofs.Over.{over, before, inside, after, ends, ones, in-ones, by-0, by-1, by-2, placed-over}
@@ -270,7 +270,7 @@ module _ (t : Stage) (X : List ℕ) (p : ℕ) (M : List ℕ) (q : ℕ) (Y : List
         width = D .width + 2;
         wide = omega (arith, D .wide, ap length placed', length-append (t .placed) (v ∷ []));
         g = g';
-        laid = laid (places t) (places t') g g' (D .width) X p M q Y v B (D .laid) step-of;
+        laid = laid-next (places t) (places t') g g' (D .width) X p M q Y v B (D .laid) step-of;
         headed = headed';
         in-group = in-group';
         grouped = grouped';

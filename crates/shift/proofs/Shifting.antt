@@ -208,7 +208,7 @@ module _ (s s' : Places) (g g' : ℕ → ℕ) (width : ℕ) (L : List ℕ) (p : 
       go (inr (inl e)) = rw e (omega (arith, S .v-sum, high q (inl refl)))
       go (inr (inr i)) = high u i
 
-  pub laid : Laid s' g' (width + 2) (post L p M q R v B)
-  laid =
+  pub laid-next : Laid s' g' (width + 2) (post L p M q R v B)
+  laid-next =
       let m = moves s s' g g' (Post B) p q v 1 2 shift (pq .ord) (omega arith) in
       record { kept = (holds, kept s s' g g' B m (G .kept)); rise = rise'; bounds = bounds'; even = even' }
