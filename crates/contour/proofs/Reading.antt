@@ -57,10 +57,18 @@ module _ (right off xs₀ : List ℕ) (v1 v2 k : ℕ) where
     spread-done h = sym (laid-nil xs off s) ∙ ap (laid xs off s) (sym (until-done right a v2 i k h)) ∙ R .lays
 
     module _ (h : i < k) (j : ℕ) (ej : j ≡ a) where
-      rest : List ℕ
+      -- the column of a, and the columns once it is stored
+      abbrev s' : ℕ
+      s' = s + getD off j 0
+
+      abbrev xs' : List ℕ
+      xs' = set xs j s'
+
+      -- what is still to be laid
+      abbrev rest : List ℕ
       rest = cond (eqb a v2) [] (until right (getD right j 0) v2 (k - (i + 1)))
 
-      turn : until right a v2 (k - i) ≡ j ∷ cond (eqb a v2) [] (until right (getD right j 0) v2 (k - (i + 1)))
+      turn : until right a v2 (k - i) ≡ j ∷ rest
       turn = until-turn right a v2 i k h ∙ rw (← ej) refl
 
       pub spread-right : j < length right
@@ -72,26 +80,25 @@ module _ (right off xs₀ : List ℕ) (v1 v2 k : ℕ) where
       pub spread-xs : j < length xs
       spread-xs = omega (arith, R .same, subst (Below (length xs₀)) turn (R .in-xs) .0)
 
-      sums : s + getD off j 0 + along off (cond (eqb a v2) [] (until right (getD right j 0) v2 (k - (i + 1)))) ≡ along off (until right v1 v2 k)
-      sums = omega (arith, R .sums, ap (along off) turn, along-cons off j (cond (eqb a v2) [] (until right (getD right j 0) v2 (k - (i + 1)))))
+      sums : s' + along off rest ≡ along off (until right v1 v2 k)
+      sums = omega (arith, R .sums, ap (along off) turn, along-cons off j rest)
 
-      pub spread-fits : along off (until right v1 v2 k) ≤ 65535 → s + getD off j 0 ≤ 65535
+      pub spread-fits : along off (until right v1 v2 k) ≤ 65535 → s' ≤ 65535
       spread-fits f = omega (arith, sums)
 
-      lays : laid (set xs j (s + getD off j 0)) off (s + getD off j 0) (cond (eqb a v2) [] (until right (getD right j 0) v2 (k - (i + 1))))
-          ≡ laid xs₀ off 0 (until right v1 v2 k)
-      lays = sym (laid-cons xs off s j (cond (eqb a v2) [] (until right (getD right j 0) v2 (k - (i + 1))))) ∙ ap (laid xs off s) (sym turn) ∙ R .lays
+      lays : laid xs' off s' rest ≡ laid xs₀ off 0 (until right v1 v2 k)
+      lays = sym (laid-cons xs off s j rest) ∙ ap (laid xs off s) (sym turn) ∙ R .lays
 
-      pub spread-same : length (set xs j (s + getD off j 0)) ≡ length xs₀
-      spread-same = length-set xs j (s + getD off j 0) ∙ R .same
+      pub spread-same : length xs' ≡ length xs₀
+      spread-same = length-set xs j s' ∙ R .same
 
-      pub spread-end : a ≡ v2 → set xs j (s + getD off j 0) ≡ laid xs₀ off 0 (until right v1 v2 k)
+      pub spread-end : a ≡ v2 → xs' ≡ laid xs₀ off 0 (until right v1 v2 k)
       spread-end e =
-          sym (laid-nil (set xs j (s + getD off j 0)) off (s + getD off j 0))
-          ∙ ap (λ (b : Bool). laid (set xs j (s + getD off j 0)) off (s + getD off j 0) (cond b [] (until right (getD right j 0) v2 (k - (i + 1)))))
+          sym (laid-nil xs' off s')
+          ∙ ap (λ (b : Bool). laid xs' off s' (cond b [] (until right (getD right j 0) v2 (k - (i + 1)))))
           (sym (eq-eqb a v2 e)) ∙ lays
 
-      pub spread-again : (a ≡ v2 → ⊥) → Spread right off xs₀ v1 v2 k (set xs j (s + getD off j 0)) (getD right j 0) (s + getD off j 0) (i + 1)
+      pub spread-again : (a ≡ v2 → ⊥) → Spread right off xs₀ v1 v2 k xs' (getD right j 0) s' (i + 1)
       spread-again n =
           let q = ne-eqb a v2 n in
           record {

@@ -15,10 +15,6 @@ use borrow.Author.Tests.{le-ltb, ltb-true, ltb-false}
 pub add-pos : (a b : ℕ) → a < 2 ^ 31 → b < 2 ^ 31 → toZ w32 a +ℤ toZ w32 b ≡ pos (a + b)
 add-pos a b ha hb = rw (toZ-pos w32 ha, toZ-pos w32 hb)
 
-pub minus-pos : (a b : ℕ) → b ≤ a → pos a -ℤ pos b ≡ pos (a - b)
-minus-pos a zero h = rw (add-zero, sub-zero)
-minus-pos a (suc b) h = rw (le-ltb a (suc b) h)
-
 pub half-pos : (a : ℕ) → a < 2 ^ 31 → quotZ (toZ w32 a) (pos 2) ≡ pos (a / 2)
 half-pos a ha = rw (toZ-pos w32 ha)
 

@@ -20,7 +20,7 @@ use Rattle.placing.proofs.Placed.{place-group, place-cover, place-x-old}
 use Rattle.drawing.proofs.Build.{Build, post as build-post, on-contour}
 use Rattle.shift.proofs.Groups.{in-groups, groups-in, sides}
 use Rattle.shift.proofs.Drawn.{Drawn}
-use Rattle.shift.proofs.Over.{before, inside, after, ends, by-0, by-1, by-2}
+use Rattle.shift.proofs.Over.{before-run, inside, after-run, ends, by-0, by-1, by-2}
 use Rattle.shift.proofs.Next.{OneStep, step, stepped}
 use Rattle.shift.proofs.Start.{three, start}
 use Rattle.shift.proofs.Every.{three-differ}
@@ -83,13 +83,13 @@ module _ (G : List (List ℕ)) (t : Stage) (v : ℕ) (s : Step G t v) (K : Kept 
   on a i = D .posts a (on-contour (R .B') a i)
 
   stays : (a : ℕ) → In a (s .X ++ s .p ∷ []) → t' .x a ≡ t .x a
-  stays a i = let b = before t (s .X) (s .p) (s .M) (s .q) (s .Y) D a i in moved-0 a (on a (b .1)) (b .0)
+  stays a i = let b = before-run t (s .X) (s .p) (s .M) (s .q) (s .Y) D a i in moved-0 a (on a (b .1)) (b .0)
 
   by-one : (a : ℕ) → In a (s .M) → t' .x a ≡ t .x a + 1
   by-one a i = let b = inside t (s .X) (s .p) (s .M) (s .q) (s .Y) D a i in moved-1 a (on a (b .2)) (b .0) (b .1)
 
   by-two : (a : ℕ) → In a (s .q ∷ s .Y) → t' .x a ≡ t .x a + 2
-  by-two a i = let b = after t (s .X) (s .p) (s .M) (s .q) (s .Y) D a i in moved-2 a (on a (b .1)) (b .0)
+  by-two a i = let b = after-run t (s .X) (s .p) (s .M) (s .q) (s .Y) D a i in moved-2 a (on a (b .1)) (b .0)
 
   cover-placed : (u : ℕ) → In u (t .placed) → ¬ (In u (t .contour)) → In (t .cover u) (t .placed)
   cover-placed u h n =
@@ -119,8 +119,8 @@ module _ (G : List (List ℕ)) (t : Stage) (v : ℕ) (s : Step G t v) (K : Kept 
       go (yes a) (yes b) = omega (arith, moved-1 u h a b, moved-1 (t .cover u) hw (omega (arith, e)) (omega (arith, e)))
       go (yes a) (no b) = omega (arith, moved-2 u h (omega arith), moved-2 (t .cover u) hw (omega (arith, e)))
 
-  pub moves : StepMoves G t v s
-  moves =
+  pub step-moves : StepMoves G t v s
+  step-moves =
       let pq = ends t (s .X) (s .p) (s .M) (s .q) (s .Y) D in
       record {
         stays = stays;

@@ -190,8 +190,8 @@ module _ (at ents vs rank : List ℕ) (A : Fitted at ents vs rank) (k : ℕ) (h 
     from-j : (m : ℕ) → j ≤ m → m < k → getD zs (getD vs m 0) 0 ≡ t .x (getD vs m 0)
 
   -- the post that covers another one stands in a later position
-  pub later : (j : ℕ) → j < k → ¬ (In (getD vs j 0) (t .contour)) → (m : ℕ) × (j < m) × (m < k) × (getD vs m 0 ≡ t .cover (getD vs j 0))
-  later j l q =
+  pub covered-later : (j : ℕ) → j < k → ¬ (In (getD vs j 0) (t .contour)) → (m : ℕ) × (j < m) × (m < k) × (getD vs m 0 ≡ t .cover (getD vs j 0))
+  covered-later j l q =
       let e = placed-is in
       let len : length (t .placed) ≡ k = ap length e ∙ length-take-le k vs i in
       let here : getD (t .placed) j 0 ≡ getD vs j 0 = ap (λ (r : List ℕ). getD r j 0) e ∙ getD-take k vs j 0 l in
@@ -212,7 +212,7 @@ module _ (at ents vs rank : List ℕ) (A : Fitted at ents vs rank) (k : ℕ) (h 
           ((λ d. absurd (d e)), rw (eq-eqb (getD cover (getD vs j 0) 0) (getD vs j 0) e) (R .on-contour (getD vs j 0) q))
       go (no q) =
           let hu = placed-at j l in
-          let w = later j l q in
+          let w = covered-later j l q in
           let e : getD cover (getD vs j 0) 0 ≡ getD vs (w .0) 0 = S .covers (getD vs j 0) hu q ∙ sym (w .3) in
           let d : ¬ (getD cover (getD vs j 0) 0 ≡ getD vs j 0) =
           λ r. omega (arith, w .1, once-different vs once (w .0) j (omega (arith, w .2)) (omega arith) (sym e ∙ r)) in
@@ -264,7 +264,7 @@ module _ (at ents vs rank : List ℕ) (A : Fitted at ents vs rank) (k : ℕ) (h 
     where
       go : Dec (In (getD vs j 0) (t .contour)) → getD cover (getD vs j 0) 0 < length G
       go (yes q) = rw (S .bare (getD vs j 0) q) (name j l)
-      go (no q) = let w = later j l q in rw (S .covers (getD vs j 0) (placed-at j l) q, ← (w .3)) (name (w .0) (w .2))
+      go (no q) = let w = covered-later j l q in rw (S .covers (getD vs j 0) (placed-at j l) q, ← (w .3)) (name (w .0) (w .2))
 
   pub readable : Readable vs off cover right xs k
   readable =

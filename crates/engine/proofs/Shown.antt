@@ -14,7 +14,7 @@ use Rattle.placing.proofs.Steps.{Step}
 use Rattle.placing.proofs.Placed.{p-old, q-old}
 use Rattle.contour.specs.Arrays.{path, along, Below, covered, hung, runEnd, farAt, innerAt, newOff, newHeight, Ready, Over}
 use Rattle.engine.specs.Shows.{Shows, Room}
-use Rattle.engine.proofs.Kept.{Kept, StepMoves, moves}
+use Rattle.engine.proofs.Kept.{Kept, StepMoves, step-moves}
 use Rattle.engine.proofs.Stepped.{Changed, right-not, shows-next}
 use Rattle.engine.proofs.Along.{below-all, path-but-last, path-but-first, path-inner, walk-last, along-list, fits-list, hung-off, hung-length}
 use Rattle.engine.proofs.Along.{hung-at, covered-off, covered-length, covered-at}
@@ -40,7 +40,7 @@ module _ (G : List (List ℕ)) (t : Stage) (v : ℕ) (s : Step G t v) (K : Kept 
   q = s .q
 
   N : StepMoves G t v s
-  N = moves G t v s K
+  N = step-moves G t v s K
 
   -- neighbours in the run are neighbours on the contour
   run-adj : (a b : ℕ) → Adj (p ∷ (M ++ q ∷ [])) a b → Adj (t .contour) a b

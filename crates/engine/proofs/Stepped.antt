@@ -15,7 +15,7 @@ use Rattle.placing.proofs.Steps.{Step, place-placed}
 use Rattle.shift.proofs.Groups.{sides}
 use Rattle.block.specs.Layout.{bias}
 use Rattle.engine.specs.Shows.{Shows}
-use Rattle.engine.proofs.Kept.{Kept, StepMoves, moves, old-placed, still-on, was-on, cover-in, cover-off, first-kept, first-on}
+use Rattle.engine.proofs.Kept.{Kept, StepMoves, step-moves, old-placed, still-on, was-on, cover-in, cover-off, first-kept, first-on}
 
 -- how a step changes the arrays: t is the next stage, v its new post over p, M, q
 pub record Changed (t : Stage) (v p : ℕ) (M : List ℕ) (q : ℕ) (ys off cover left right ys' off' cover' left' right' : List ℕ) : Type 0 where
@@ -129,7 +129,7 @@ module _ (G : List (List ℕ)) (t : Stage) (v : ℕ) (s : Step G t v) (K : Kept 
   module _ (ys off cover left right ys' off' cover' left' right' : List ℕ) (S : Shows t ys off cover left right)
       (N : Changed t' v p M q ys off cover left right ys' off' cover' left' right') where
     abbrev m : StepMoves G t v s
-    m = moves G t v s K
+    m = step-moves G t v s K
 
     height : (u : ℕ) → In u (t' .placed) → getD ys' u 0 ≡ t' .y u
     height u h =

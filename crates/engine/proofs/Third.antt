@@ -112,8 +112,8 @@ start-shows v1 v2 v3 ys off cover left right ys' off' cover' left' right' C e1 e
 
 -- ---- of a list that fits so far
 module _ (at ents vs rank ys off cover left right : List ℕ) (A : Fitted at ents vs rank) (W : Room (length (held at ents)) ys off cover left right) where
-  pub corners : Corners (getD vs 0 0) (getD vs 1 0) (getD vs 2 0) ys off cover left right
-  corners =
+  pub corners-ready : Corners (getD vs 0 0) (getD vs 1 0) (getD vs 2 0) ys off cover left right
+  corners-ready =
       let b = A .fits .below in
       let d = three-differ vs (fits-once (held at ents) (A .vn) vs (A .plane) (A .fits)) (A .three) in
       record {

@@ -29,7 +29,7 @@ use Rattle.engine.specs.Shows.{Shows, Columned}
 use Rattle.placing.specs.Sheet.{pairs}
 use Rattle.engine.specs.Recorded.{recordBy}
 use Rattle.order.proofs.Ranked.{placed-by}
-use Rattle.engine.proofs.Read.{later}
+use Rattle.engine.proofs.Read.{covered-later}
 
 -- ---- neighbours on a contour
 left-first : (x : ℕ) (l : List ℕ) (u : ℕ) → ¬ (In u l) → leftOf (x ∷ l) u ≡ u
@@ -149,7 +149,7 @@ module _ (at ents vs rank : List ℕ) (A : Fitted at ents vs rank) (k : ℕ) (h 
   other : (u : ℕ) → In u (t .placed) → ¬ (In u (t .contour)) → ¬ (getD cover u 0 ≡ u)
   other u q n e =
       let w = in-take k vs u (subst (In u) placed-is q) in
-      let l = later at ents vs rank A k h i ys off cover left right (D .holds) xs (D .roomy) (w .0) (w .1)
+      let l = covered-later at ents vs rank A k h i ys off cover left right (D .holds) xs (D .roomy) (w .0) (w .1)
       (λ c. n (subst (λ (a : ℕ). In a (t .contour)) (w .3) c)) in
       let f : getD vs (l .0) 0 ≡ getD vs (w .0) 0 = l .3 ∙ ap (t .cover) (w .3) ∙ sym (S .covers u q n) ∙ e ∙ sym (w .3) in
       let d = A .fits .once (l .0) (w .0) (omega (arith, l .2)) (w .2) f in

@@ -123,92 +123,92 @@ module _ (G : List (List ℕ)) (vn : ℕ) (vs : List ℕ) (Q : Plane G (post vs 
     abbrev F : Faces G
     F = fits-faces G vn vs Q A
 
-    before : earlier vs (k + 1) ≡ take k vs
+    before : earlier vs (k + 1) ≡ P
     before = let e : k + 1 - 1 ≡ k = omega arith in rw e refl
 
     abbrev K : List ℕ
     K = fits-contour k h (omega arith) .0
 
-    contour : Contour (After G) (post vs 1) (post vs 2) (take k vs) K
+    contour : Contour (After G) (post vs 1) (post vs 2) P K
     contour = fits-contour k h (omega arith) .1
 
-    one : oneRun G (take k vs) (post vs (k + 1)) ≡ true
-    one = subst (λ (l : List ℕ). oneRun G l (post vs (k + 1)) ≡ true) before (A .run (k + 1) (omega arith) (omega arith))
+    one : oneRun G P v ≡ true
+    one = subst (λ (l : List ℕ). oneRun G l v ≡ true) before (A .run (k + 1) (omega arith) (omega arith))
 
-    grown : Grown G (post vs 1) (post vs 2) (take k vs) K (post vs (k + 1))
+    grown : Grown G (post vs 1) (post vs 2) P K v
     grown =
-        subst (λ (l : List ℕ). Grown G (post vs 1) (post vs 2) l K (post vs (k + 1))) before
+        subst (λ (l : List ℕ). Grown G (post vs 1) (post vs 2) l K v) before
         (fits-grow G vn vs Q A (k + 1) (omega arith) (omega arith) K (subst⁻¹ (λ (l : List ℕ). Contour (After G) (post vs 1) (post vs 2) l K) before contour))
 
     abbrev the-run : List ℕ
-    the-run = run G (take k vs) (post vs (k + 1))
+    the-run = run G P v
 
     p-first : grown .p ≡ post the-run 1
     p-first = ap (λ (l : List ℕ). getD l 0 0) (sym (grown .run-is))
 
-    new : ¬ (In (post vs (k + 1)) (take k vs))
-    new j = post-new vs (fits-once G vn vs Q A) (k + 1) (omega arith) (omega arith) (subst⁻¹ (In (post vs (k + 1))) before j)
+    new : ¬ (In v P)
+    new j = post-new vs (fits-once G vn vs Q A) (k + 1) (omega arith) (omega arith) (subst⁻¹ (In v) before j)
 
     -- the run's first post is a neighbour, and placed
-    near : In (grown .p) (ring G (post vs (k + 1)))
-    near = run-near G (take k vs) (post vs (k + 1)) (grown .p) (rw (grown .run-is) (inl refl))
+    near : In (grown .p) (ring G v)
+    near = run-near G P v (grown .p) (rw (grown .run-is) (inl refl))
 
-    near-on : In (grown .p) (take k vs)
+    near-on : In (grown .p) P
     near-on = grown .the-run .placed (grown .p) (inl refl)
 
-    pub near-some : (a : ℕ) × In a (ring G (post vs (k + 1)))
+    pub near-some : (a : ℕ) × In a (ring G v)
     near-some = (grown .p, near)
 
-    ring-is-once : Once (ring G (post vs (k + 1)))
-    ring-is-once = ring-once G F (post vs (k + 1)) (A .below (post vs (k + 1)) (place-in vs (k + 1 - 1) (omega arith)))
+    ring-is-once : Once (ring G v)
+    ring-is-once = ring-once G F v (A .below v (place-in vs (k + 1 - 1) (omega arith)))
 
     -- c begins the run, which has as many entries as are placed
     abbrev Begins : ℕ → Type 0
-    Begins c = (c ≡ post the-run 1) × (count (mem (take k vs)) (ring G (post vs (k + 1))) ≡ length the-run)
+    Begins c = (c ≡ post the-run 1) × (count (mem P) (ring G v) ≡ length the-run)
 
     -- where a placed entry follows one that is not
-    at-pair : (b c : ℕ) → After G (post vs (k + 1)) b c → ¬ (In b (take k vs)) → In c (take k vs) → Begins c
+    at-pair : (b c : ℕ) → After G v b c → ¬ (In b P) → In c P → Begins c
     unfolding startsAt
     at-pair b c f m j =
-        let w = around-place (ring G (post vs (k + 1))) b c f in
-        let st : startsAt (take k vs) (ring G (post vs (k + 1))) (w .0) ≡ true =
-        rw (w .2, w .3, is-false (mem (take k vs) b) (λ x. m (mem-in (take k vs) b x)), is-true (mem (take k vs) c) (in-mem (take k vs) c j)) refl in
-        (grown .the-run .starts b c f m j ∙ p-first, sym (run-after-length G (take k vs) (post vs (k + 1)) ring-is-once one (w .0) (w .1) st))
+        let w = around-place (ring G v) b c f in
+        let st : startsAt P (ring G v) (w .0) ≡ true =
+        rw (w .2, w .3, is-false (mem P b) (λ x. m (mem-in P b x)), is-true (mem P c) (in-mem P c j)) refl in
+        (grown .the-run .starts b c f m j ∙ p-first, sym (run-after-length G P v ring-is-once one (w .0) (w .1) st))
 
     -- where all are placed
-    v1-near : post vs (k + 1) ≡ vn → In (post vs 1) (ring G (post vs (k + 1)))
+    v1-near : v ≡ vn → In (post vs 1) (ring G v)
     v1-near e =
         let v1 = post vs 1 in
         let v2 = post vs 2 in
         rw e (around-in (ring G vn) v2 v1 (F .triangle v1 vn v2 (F .triangle v2 v1 vn (fits-outer G vn vs Q A))) .1)
 
-    at-all : ((a : ℕ) → In a (ring G (post vs (k + 1))) → In a (take k vs)) → Begins (post vs 1)
+    at-all : ((a : ℕ) → In a (ring G v) → In a P) → Begins (post vs 1)
     at-all all =
-        let l = ring G (post vs (k + 1)) in
+        let l = ring G v in
         let o = fits-outer G vn vs Q A in
-        let e = whole-is-last G F (post vs 1) (post vs 2) vn o (take k vs) K (post vs (k + 1)) contour new (grown .p) near all in
+        let e = whole-is-last G F (post vs 1) (post vs 2) vn o P K v contour new (grown .p) near all in
         let w = in-place l (post vs 1) (v1-near e) in
-        let r = run-at-v1 G (take k vs) (post vs (k + 1)) ring-is-once all (w .0) (w .1) (w .2 ∙ sym (getD-take k vs 0 0 (omega arith))) in
+        let r = run-at-v1 G P v ring-is-once all (w .0) (w .1) (w .2 ∙ sym (getD-take k vs 0 0 (omega arith))) in
         let z : w .0 + 0 ≡ w .0 = omega arith in
         let f : getD (from (w .0) l) 0 0 ≡ post vs 1 = from-inside l (w .0) 0 (omega (arith, w .1)) ∙ ap (λ (j : ℕ). getD l j 0) z ∙ w .2 in (
           sym f ∙ ap (λ (m : List ℕ). getD m 0 0) (sym r),
-          count-all (mem (take k vs)) l (λ a j. in-mem (take k vs) a (all a j)) ∙ sym (from-length (w .0) l) ∙ sym (ap length r),
+          count-all (mem P) l (λ a j. in-mem P a (all a j)) ∙ sym (from-length (w .0) l) ∙ sym (ap length r),
         )
 
     abbrev opened : List ℕ → ℕ → ℕ
-    opened l x = opens (mem (take k vs)) (post vs 1) (mem (take k vs) x) l
+    opened l x = opens (mem P) (post vs 1) (mem P x) l
 
-    pub run-found : Begins (opened (ring G (post vs (k + 1))) (lastOf 0 (ring G (post vs (k + 1)))))
-    run-found = go (ring G (post vs (k + 1))) refl
+    pub run-found : Begins (opened (ring G v) (lastOf 0 (ring G v)))
+    run-found = go (ring G v) refl
       where
-        go : (R : List ℕ) → ring G (post vs (k + 1)) ≡ R → Begins (opened R (lastOf 0 R))
+        go : (R : List ℕ) → ring G v ≡ R → Begins (opened R (lastOf 0 R))
         go [] e = absurd (subst (In (grown .p)) e near)
-        go (y ∷ l) e = at (opens-says (take k vs) (post vs 1) (lastOf y l) (y ∷ l))
+        go (y ∷ l) e = at (opens-says P (post vs 1) (lastOf y l) (y ∷ l))
           where
-            at : Pair (take k vs) (lastOf y l ∷ y ∷ l) (opened (y ∷ l) (lastOf y l))
-                ⊎ ((opened (y ∷ l) (lastOf y l) ≡ post vs 1) × None (take k vs) (lastOf y l ∷ y ∷ l))
+            at : Pair P (lastOf y l ∷ y ∷ l) (opened (y ∷ l) (lastOf y l))
+                ⊎ ((opened (y ∷ l) (lastOf y l) ≡ post vs 1) × None P (lastOf y l ∷ y ∷ l))
                 → Begins (opened (y ∷ l) (lastOf y l))
             at (inl w) = at-pair (w .0) (opened (y ∷ l) (lastOf y l)) (rw e (around-adj y l (w .0) _ (w .1))) (w .2) (w .3)
             at (inr w) =
-                let r = at-all (λ a j. all-on (take k vs) y l (w .1) (grown .p) (subst (In (grown .p)) e near) near-on a (subst (In a) e j)) in
+                let r = at-all (λ a j. all-on P y l (w .1) (grown .p) (subst (In (grown .p)) e near) near-on a (subst (In a) e j)) in
                 (w .0 ∙ r .0, r .1)

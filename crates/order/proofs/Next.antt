@@ -93,13 +93,13 @@ module _ (at ents vs rank : List ℕ) (A : Fitted at ents vs rank) (k : ℕ) (h 
       × (count (mem (take k vs)) l ≡ length the-run))
       ring-is (run-found G (A .vn) vs (A .plane) (A .fits) k h i)
 
-  pub first-is : (p : ℕ) → p ≡ opens (before rank (k + 1)) (getD vs 0 0) (before rank (k + 1) (getD ents (e - 1) 0)) (slice b e ents) → p ≡ post the-run 1
-  first-is p ep =
+  pub run-first-is : (p : ℕ) → p ≡ opens (before rank (k + 1)) (getD vs 0 0) (before rank (k + 1) (getD ents (e - 1) 0)) (slice b e ents) → p ≡ post the-run 1
+  run-first-is p ep =
       let tested = before rank (k + 1) in
       let last = entry (e - 1) (omega (arith, some-entry)) (omega (arith, some-entry)) in
       ep ∙ opens-same tested (mem (take k vs)) (getD vs 0 0) (tested (getD ents (e - 1) 0)) (slice b e ents) same
       ∙ ap (λ (w : Bool). opens (mem (take k vs)) (getD vs 0 0) w (slice b e ents)) (same (getD ents (e - 1) 0) last ∙ ap (mem (take k vs)) last-is)
       ∙ found .0
 
-  pub many-is : (m : ℕ) → m ≡ count (mem (earlier vs (k + 1))) (slice b e ents) → m ≡ length the-run
-  many-is m em = let q : k + 1 - 1 ≡ k = omega arith in em ∙ ap (λ (j : ℕ). count (mem (take j vs)) (slice b e ents)) q ∙ found .1
+  pub run-many-is : (m : ℕ) → m ≡ count (mem (earlier vs (k + 1))) (slice b e ents) → m ≡ length the-run
+  run-many-is m em = let q : k + 1 - 1 ≡ k = omega arith in em ∙ ap (λ (j : ℕ). count (mem (take j vs)) (slice b e ents)) q ∙ found .1

@@ -105,11 +105,11 @@ module _ (G : List (List ℕ)) (vn : ℕ) (vs : List ℕ) (P : Plane G (post vs 
         omega (arith, tied-at k h i .right)
 
     -- the contour's posts are placed, and each post placed is in the group of one of them, and of no other
-    pub contour-at : (c : ℕ) → In c (t .contour) → In c (take k vs)
-    contour-at c a = rw placed-at at (contour-placed drawn-at c a)
+    pub contour-placed-at : (c : ℕ) → In c (t .contour) → In c (take k vs)
+    contour-placed-at c a = rw placed-at at (contour-placed drawn-at c a)
 
-    pub group-at : (c u : ℕ) → In c (t .contour) → In u (t .group c) → In u (take k vs)
-    group-at c u a b = rw placed-at at (group-placed drawn-at c u a b)
+    pub group-placed-at : (c u : ℕ) → In c (t .contour) → In u (t .group c) → In u (take k vs)
+    group-placed-at c u a b = rw placed-at at (group-placed drawn-at c u a b)
 
     pub in-some-at : (u : ℕ) → In u (take k vs) → (c : ℕ) × In c (t .contour) × In u (t .group c)
     in-some-at u a = in-some drawn-at u (rw placed-at a)

@@ -51,8 +51,8 @@ module _ (s s' : Places) (g g' : ℕ → ℕ) (Here : ℕ → Type 0) (p q v i j
     right u (mi a a' b e) = omega arith
     right u (hi a b e) = omega arith
 
-    pub moves : Slides s s' g g' Here
-    moves = record { right = λ u h. right u (moved u h); level = S .level; order = λ z u k l. order z u (moved z k) (moved u l) }
+    pub slides : Slides s s' g g' Here
+    slides = record { right = λ u h. right u (moved u h); level = S .level; order = λ z u k l. order z u (moved z k) (moved u l) }
 
 -- the contour, along which groups grow
 module _ (g : ℕ → ℕ) (L : List ℕ) (p : ℕ) (M : List ℕ) (q : ℕ) (R : List ℕ) (E : ℕ → ℕ → Type 0) (trans : (a b c : ℕ) → E a b → E b c → E a c)
@@ -60,14 +60,14 @@ module _ (g : ℕ → ℕ) (L : List ℕ) (p : ℕ) (M : List ℕ) (q : ℕ) (R 
   onward : Chain E (p ∷ (M ++ q ∷ R))
   onward = chain-at E p L (M ++ q ∷ R) C
 
-  pub run : Chain E (p ∷ (M ++ q ∷ []))
-  run = chain-to E q (p ∷ M) R onward
+  pub run-chain : Chain E (p ∷ (M ++ q ∷ []))
+  run-chain = chain-to E q (p ∷ M) R onward
 
   pub to-q : (a : ℕ) → In a (p ∷ M) → E a q
-  to-q = chain-last E trans (p ∷ M) q run
+  to-q = chain-last E trans (p ∷ M) q run-chain
 
   pub from-p : (b : ℕ) → In b (M ++ q ∷ []) → E p b
-  from-p = chain-from E trans p (M ++ q ∷ []) run
+  from-p = chain-from E trans p (M ++ q ∷ []) run-chain
 
   before-p : Chain E (L ++ p ∷ [])
   before-p = chain-to E p L (M ++ q ∷ R) C

@@ -14,10 +14,10 @@ use Rattle.words.proofs.Lists.{in-cases, in-left, in-right}
 use Rattle.drawing.proofs.Build.{Build, post, Post, on-contour}
 use Rattle.shift.proofs.Groups.{sides}
 use Rattle.shift.proofs.Group.{Regroup, Moved, lo, mi, hi, moved}
-use Rattle.shift.proofs.Shifting.{Shifts, laid}
+use Rattle.shift.proofs.Shifting.{Shifts, laid-next}
 use Rattle.shift.proofs.Drawn.{places, Drawn}
 use Rattle.placing.proofs.Placed.{movedBy}
-use Rattle.shift.proofs.Over.{over, before, inside, after, ends, ones, in-ones, by-0, by-1, by-2, placed-over}
+use Rattle.shift.proofs.Over.{over, before-run, inside, after-run, ends, ones, in-ones, by-0, by-1, by-2, placed-over}
 
 -- the places of the groups: up to p's as they were, v's and the run's inner ones next, and then those from q's on
 abbrev pub next-g : (ℕ → ℕ) → (p q v : ℕ) → ℕ → ℕ
@@ -162,7 +162,7 @@ module _ (t : Stage) (X : List ℕ) (p : ℕ) (M : List ℕ) (q : ℕ) (Y : List
 
   stays-left : (c : ℕ) → In c (X ++ p ∷ []) → Stays c
   stays-left c i =
-      let b = before t X p M q Y D c i in
+      let b = before-run t X p M q Y D c i in
       let h = on-contour B c (b .1) in
       let r = regroup .lo c h (b .0) in
       record { is-post = h; was-on = b .1; where-to = inl (omega (arith, r, b .0)); only = λ u k e. go u (moves-of u k) (r .1) (b .0) e }
@@ -174,7 +174,7 @@ module _ (t : Stage) (X : List ℕ) (p : ℕ) (M : List ℕ) (q : ℕ) (Y : List
 
   stays-right : (c : ℕ) → In c (q ∷ Y) → Stays c
   stays-right c i =
-      let b = after t X p M q Y D c i in
+      let b = after-run t X p M q Y D c i in
       let h = on-contour B c (b .1) in
       let r = regroup .hi c h (b .0) in
       record { is-post = h; was-on = b .1; where-to = inr (omega (arith, r, b .0)); only = λ u k e. go u (moves-of u k) (r .1) (b .0) e }
@@ -270,7 +270,7 @@ module _ (t : Stage) (X : List ℕ) (p : ℕ) (M : List ℕ) (q : ℕ) (Y : List
         width = D .width + 2;
         wide = omega (arith, D .wide, ap length placed', length-append (t .placed) (v ∷ []));
         g = g';
-        laid = laid (places t) (places t') g g' (D .width) X p M q Y v B (D .laid) step-of;
+        laid = laid-next (places t) (places t') g g' (D .width) X p M q Y v B (D .laid) step-of;
         headed = headed';
         in-group = in-group';
         grouped = grouped';

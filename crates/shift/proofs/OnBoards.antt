@@ -15,9 +15,9 @@ unfolding third placeAll stage
 inner-T = omega arith
 
 -- v2, v1, vn: 2 follows 0 at 1
-pub outer-T : ¬ (PositiveArea (places (stage listsT orderT)) 1 0 2)
+pub outer-not-T : ¬ (PositiveArea (places (stage listsT orderT)) 1 0 2)
 unfolding third placeAll stage
-outer-T h = omega arith
+outer-not-T h = omega arith
 
 -- 4 follows 3 at 0
 pub inner-D : PositiveArea (places (stage listsD orderD)) 0 3 4
@@ -25,6 +25,6 @@ unfolding flatMap first mem allOf anyOf from lead rest leads begins run third up
 inner-D = omega arith
 
 -- 4 follows 0 at 1
-pub outer-D : ¬ (PositiveArea (places (stage listsD orderD)) 1 0 4)
+pub outer-not-D : ¬ (PositiveArea (places (stage listsD orderD)) 1 0 4)
 unfolding flatMap first mem allOf anyOf from lead rest leads begins run third upTo onFrom placeOver place placeAll stage
-outer-D h = omega arith
+outer-not-D h = omega arith

@@ -52,11 +52,11 @@ module _ (t : Stage) (X : List ℕ) (p : ℕ) (M : List ℕ) (q : ℕ) (Y : List
   grow a b h = h .ord
 
   -- the places in the three parts of the contour
-  pub before : (a : ℕ) → In a (X ++ p ∷ []) → (g a ≤ g p) × In a (X ++ p ∷ (M ++ q ∷ Y))
-  before = upto-p g X p M q Y E trans grow (D .laid .rise)
+  pub before-run : (a : ℕ) → In a (X ++ p ∷ []) → (g a ≤ g p) × In a (X ++ p ∷ (M ++ q ∷ Y))
+  before-run = upto-p g X p M q Y E trans grow (D .laid .rise)
 
-  pub after : (a : ℕ) → In a (q ∷ Y) → (g q ≤ g a) × In a (X ++ p ∷ (M ++ q ∷ Y))
-  after = onto-q g X p M q Y E trans grow (D .laid .rise)
+  pub after-run : (a : ℕ) → In a (q ∷ Y) → (g q ≤ g a) × In a (X ++ p ∷ (M ++ q ∷ Y))
+  after-run = onto-q g X p M q Y E trans grow (D .laid .rise)
 
   pub inside : (a : ℕ) → In a M → (g p < g a) × (g a < g q) × In a (X ++ p ∷ (M ++ q ∷ Y))
   inside a i = (
@@ -80,15 +80,15 @@ module _ (t : Stage) (X : List ℕ) (p : ℕ) (M : List ℕ) (q : ℕ) (Y : List
   ones u h a b = let r = D .headed u h in go (r .0) (r .1) (r .2) (sides (r .0) X p M q Y (r .1))
     where
       go : (c : ℕ) → In c (X ++ p ∷ (M ++ q ∷ Y)) → g u ≡ g c → In c (X ++ p ∷ []) ⊎ (In c M ⊎ In c (q ∷ Y)) → In u (flatMap (t .group) M)
-      go c i e (inl k) = absurd (omega (arith, before c k .0))
+      go c i e (inl k) = absurd (omega (arith, before-run c k .0))
       go c i e (inr (inl k)) = groups-in (t .group) u c M k (D .grouped c u i h e)
-      go c i e (inr (inr k)) = absurd (omega (arith, after c k .0))
+      go c i e (inr (inr k)) = absurd (omega (arith, after-run c k .0))
 
   -- the posts that move by 2
   pub in-twos : (u : ℕ) → In u (flatMap (t .group) (q ∷ Y)) → Post B u × (g q ≤ g u)
   in-twos u h =
       let r = in-groups (t .group) u (q ∷ Y) h in
-      let i = after (r .0) (r .1) in
+      let i = after-run (r .0) (r .1) in
       let k = D .in-group (r .0) u (i .1) (r .2) in
       (k .0, omega (arith, i .0, k .1))
 
@@ -96,7 +96,7 @@ module _ (t : Stage) (X : List ℕ) (p : ℕ) (M : List ℕ) (q : ℕ) (Y : List
   twos u h a = let r = D .headed u h in go (r .0) (r .1) (r .2) (sides (r .0) X p M q Y (r .1))
     where
       go : (c : ℕ) → In c (X ++ p ∷ (M ++ q ∷ Y)) → g u ≡ g c → In c (X ++ p ∷ []) ⊎ (In c M ⊎ In c (q ∷ Y)) → In u (flatMap (t .group) (q ∷ Y))
-      go c i e (inl k) = absurd (omega (arith, before c k .0, ends .ord))
+      go c i e (inl k) = absurd (omega (arith, before-run c k .0, ends .ord))
       go c i e (inr (inl k)) = absurd (omega (arith, inside c k .1))
       go c i e (inr (inr k)) = groups-in (t .group) u c (q ∷ Y) k (D .grouped c u i h e)
 
@@ -134,4 +134,4 @@ module _ (t : Stage) (X : List ℕ) (p : ℕ) (M : List ℕ) (q : ℕ) (Y : List
       down : onFrom q (X ++ p ∷ (M ++ q ∷ Y)) ≡ q ∷ Y
       down =
           rw (← (append-assoc X (p ∷ M) (q ∷ Y)))
-          (on-from-at (X ++ p ∷ M) q Y (in-cases q X (p ∷ M) (λ i. omega (arith, before q (in-left q X (p ∷ []) i) .0, ends .ord)) not-q))
+          (on-from-at (X ++ p ∷ M) q Y (in-cases q X (p ∷ M) (λ i. omega (arith, before-run q (in-left q X (p ∷ []) i) .0, ends .ord)) not-q))

@@ -12,7 +12,7 @@ use Rattle.words.proofs.Chains.{Chain, chain-run}
 use Rattle.drawing.proofs.Build.{Build, post, Post, on-contour}
 use Rattle.shift.proofs.Peaks.{peak}
 use Rattle.shift.proofs.Shift.{HeldPair, HeldRun, HeldAll, kept}
-use Rattle.shift.proofs.Group.{Regroup, Moved, lo, mi, hi, moved, moves, run, to-q, from-p, upto-p, onto-q, renewed}
+use Rattle.shift.proofs.Group.{Regroup, Moved, lo, mi, hi, moved, slides, run-chain, to-q, from-p, upto-p, onto-q, renewed}
 
 -- b stands later on the contour than a: neither x + y nor x - y falls
 pub record Onward (s : Places) (g : ℕ → ℕ) (a b : ℕ) : Type 0 where
@@ -166,7 +166,7 @@ module _ (s s' : Places) (g g' : ℕ → ℕ) (width : ℕ) (L : List ℕ) (p : 
   later-q = omega (arith, ends, pq, S .v-sum, S .v-dif, shift .v-place)
 
   holds : HeldRun s' g' p M q v
-  holds = record { left = omega (arith, later-p); right = omega (arith, later-q); run = chain-run q p M held (run g L p M q R E trans grow (G .rise)) }
+  holds = record { left = omega (arith, later-p); right = omega (arith, later-q); run = chain-run q p M held (run-chain g L p M q R E trans grow (G .rise)) }
 
   -- ---- the next stage
   same-later : (a b : ℕ) → Post B a → Post B b → ((g a ≤ g p) × (g b ≤ g p)) ⊎ ((g q ≤ g a) × (g q ≤ g b)) → Onward s g a b → Onward s' g' a b
@@ -208,7 +208,7 @@ module _ (s s' : Places) (g g' : ℕ → ℕ) (width : ℕ) (L : List ℕ) (p : 
       go (inr (inl e)) = rw e (omega (arith, S .v-sum, high q (inl refl)))
       go (inr (inr i)) = high u i
 
-  pub laid : Laid s' g' (width + 2) (post L p M q R v B)
-  laid =
-      let m = moves s s' g g' (Post B) p q v 1 2 shift (pq .ord) (omega arith) in
+  pub laid-next : Laid s' g' (width + 2) (post L p M q R v B)
+  laid-next =
+      let m = slides s s' g g' (Post B) p q v 1 2 shift (pq .ord) (omega arith) in
       record { kept = (holds, kept s s' g g' B m (G .kept)); rise = rise'; bounds = bounds'; even = even' }

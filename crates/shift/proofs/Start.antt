@@ -42,8 +42,8 @@ module _ (s : Places) (g : ℕ → ℕ) (a b c : ℕ) (A : Corner s g a 0 0 0) (
   on u (inr (inl e)) = inl e
   on u (inr (inr e)) = inr (inr (inl e))
 
-  pub first : Laid s g 2 (three a b c)
-  first =
+  pub laid-first : Laid s g 2 (three a b c)
+  laid-first =
       record {
         kept = (record { left = omega (arith, A, C); right = omega (arith, B, C); run = (held, tt) }, omega (arith, A, B));
         rise = (omega (arith, A, C), (omega (arith, B, C), tt));
@@ -93,7 +93,7 @@ module _ (v1 v2 v3 : ℕ) (d12 : v1 ≢ v2) (d13 : v1 ≢ v3) (d23 : v2 ≢ v3) 
         width = 2;
         wide = refl;
         g = g;
-        laid = first (places t) g v1 v2 v3 first-post second-post third-post;
+        laid = laid-first (places t) g v1 v2 v3 first-post second-post third-post;
         headed = λ u h. (u, on-all u h, refl);
         in-group = λ c u i. elim [ inl e ↦ (subst⁻¹ (Post (three v1 v2 v3)) e (on-contour (three v1 v2 v3) c i), ap g e) | inr z ↦ absurd z ];
         grouped = λ c u i h e. inl (sym (back u (on-all u h)) ∙ ap (λ (k : ℕ). getD (v1 ∷ v3 ∷ v2 ∷ []) k 0) e ∙ back c i);

@@ -16,7 +16,7 @@ use Rattle.placing.proofs.Placed.{movedBy, place-x-old}
 use Rattle.drawing.proofs.Build.{Build, Post, Built, on-contour}
 use Rattle.drawing.proofs.Build.Build.{post as over}
 use Rattle.shift.proofs.Drawn.{Drawn}
-use Rattle.shift.proofs.Over.{before, after, inside, by-0, by-1, by-2}
+use Rattle.shift.proofs.Over.{before-run, after-run, inside, by-0, by-1, by-2}
 use Rattle.shift.proofs.Next.{OneStep, step, stepped}
 use Rattle.shift.proofs.Start.{three, start, first-post, second-post}
 use Rattle.shift.proofs.Tri.{Tri}
@@ -108,7 +108,7 @@ module _ (G : List (List ℕ)) (t : Stage) (v : ℕ) (S : Step G t v) where
 
     pub left-moves : (c u : ℕ) → In c (S .X ++ S .p ∷ []) → In u (t .group c) → place G t v .x u ≡ t .x u
     left-moves c u i h =
-        let b = before t (S .X) (S .p) (S .M) (S .q) (S .Y) (redrawn .drawn) c i in
+        let b = before-run t (S .X) (S .p) (S .M) (S .q) (S .Y) (redrawn .drawn) c i in
         let k = redrawn .drawn .in-group c u (b .1) h in
         omega (arith, new-x u (k .0) 0 (by-0 t (S .X) (S .p) (S .M) (S .q) (S .Y) (redrawn .drawn) u (omega (arith, b .0, k .1))))
 
@@ -121,7 +121,7 @@ module _ (G : List (List ℕ)) (t : Stage) (v : ℕ) (S : Step G t v) where
 
     pub right-moves : (c u : ℕ) → In c (S .q ∷ S .Y) → In u (t .group c) → place G t v .x u ≡ t .x u + 2
     right-moves c u i h =
-        let b = after t (S .X) (S .p) (S .M) (S .q) (S .Y) (redrawn .drawn) c i in
+        let b = after-run t (S .X) (S .p) (S .M) (S .q) (S .Y) (redrawn .drawn) c i in
         let k = redrawn .drawn .in-group c u (b .1) h in
         new-x u (k .0) 2 (by-2 t (S .X) (S .p) (S .M) (S .q) (S .Y) (redrawn .drawn) u (k .0) (omega (arith, b .0, k .1)))
 
@@ -133,14 +133,14 @@ module _ (G : List (List ℕ)) (t : Stage) (v : ℕ) (S : Step G t v) where
     first-stays : (u : ℕ) → Head (t .contour) u → place G t v .x u ≡ t .x u
     first-stays u h =
         let i = in-head u (S .X ++ S .p ∷ []) (head-same u (S .X) (S .p) (S .M ++ S .q ∷ S .Y) [] (subst (λ (l : List ℕ). Head l u) (S .before) h)) in
-        left-moves u u i (own u (before t (S .X) (S .p) (S .M) (S .q) (S .Y) (redrawn .drawn) u i .1))
+        left-moves u u i (own u (before-run t (S .X) (S .p) (S .M) (S .q) (S .Y) (redrawn .drawn) u i .1))
 
     last-moves : (a u : ℕ) → lastOf a (t .contour) ≡ u → place G t v .x u ≡ t .x u + 2
     last-moves a u h =
         let e : lastOf (S .q) (S .Y) ≡ u =
         sym (last-append (S .p) (S .M) (S .q) (S .Y)) ∙ sym (last-append a (S .X) (S .p) (S .M ++ S .q ∷ S .Y)) ∙ sym (ap (lastOf a) (S .before)) ∙ h in
         let i = subst (λ (n : ℕ). In n (S .q ∷ S .Y)) e (last-in (S .q) (S .Y)) in
-        right-moves u u i (own u (after t (S .X) (S .p) (S .M) (S .q) (S .Y) (redrawn .drawn) u i .1))
+        right-moves u u i (own u (after-run t (S .X) (S .p) (S .M) (S .q) (S .Y) (redrawn .drawn) u i .1))
 
     pub tied-next : Faces G → Tied G (place G t v)
     tied-next F =

@@ -5,7 +5,7 @@ use Prim.Native.Nat.{ℕ, _≤_, _-_}
 use mathlib.Core.Path.{_≡_, subst}
 use lib.ListN.{length}
 use Rattle.engine.specs.Shows.{Holds}
-use Rattle.engine.proofs.Third.{corners, third-holds}
+use Rattle.engine.proofs.Third.{corners-ready, third-holds}
 use borrow.Author.Needs.{needs}
 
 abbrev Inv-loop : tie.InvT-loop
@@ -30,7 +30,7 @@ start-requires c κs =
     let read = c .before .before .before .before .before in
     let shared = read .before .before .before .before .before .before .before in
     let entry = shared .before .before .before .before .before in
-    corners _ _ _ _ _ _ _ _ _ (entry .pre .0) (entry .pre .3)
+    corners-ready _ _ _ _ _ _ _ _ _ (entry .pre .0) (entry .pre .3)
 
 loop-holds : tie.Need-loop-holds Inv-loop μ-loop
 loop-holds c =

@@ -17,7 +17,7 @@ write-sheet-requires c κs =
     let shared = lent .before .before .before .before .before .before in
     let b = shared .before .before .before .before .before .pre in (
       omega (arith, b .2),
-      stage-within _ _ _ _ (b .0) _ (b .2),
+      omega (arith, stage-within _ _ _ _ (b .0) _ (b .2)),
       omega (arith, b .5),
       λ (j : ℕ) l. names-fit _ _ _ _ (b .0) _ (b .1) (b .2) _ _ _ _ _ _ (drawn .draw .ensures) j (omega (arith, l)),
     )

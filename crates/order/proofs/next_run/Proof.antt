@@ -2,7 +2,7 @@ use borrow.Author.Needs.{needs}
 use Rattle.order.proofs.next_run.Statement.{statement}
 use Rattle.order.proofs.next_run.Tie as tie
 use native.Mathlib.Omega.{arith}
-use Rattle.order.proofs.Next.{in-at, in-ents, some-entry, named, in-rank, first-is, many-is}
+use Rattle.order.proofs.Next.{in-at, in-ents, some-entry, named, in-rank, run-first-is, run-many-is}
 
 mul-number : tie.Need-mul-number
 mul-number c = search needs
@@ -83,8 +83,8 @@ returns c =
     let read = c .before .before .before .before .before .before .before in
     let v = read .number .ensures .0 in
     let pre = read .before .before .before .before .before .before .pre in (
-      first-is _ _ _ _ (pre .0) _ (pre .1) (pre .2) _ _ _ v b e _ (c .before .run-begins .ensures),
-      many-is _ _ _ _ (pre .0) _ (pre .1) (pre .2) _ _ _ v b e _ (c .count-before .ensures),
+      run-first-is _ _ _ _ (pre .0) _ (pre .1) (pre .2) _ _ _ v b e _ (c .before .run-begins .ensures),
+      run-many-is _ _ _ _ (pre .0) _ (pre .1) (pre .2) _ _ _ v b e _ (c .count-before .ensures),
     )
 
 pub next-run-spec : {M : Type 1} → statement M
