@@ -20,7 +20,7 @@ use Rattle.block.specs.Layout.{limit}
 use Rattle.order.proofs.Fitting.{fits-once, fits-few}
 use Rattle.placing.specs.Stages.{Stage, stage}
 use Rattle.placing.proofs.Steps.{contours, stage-placed}
-use Rattle.shift.proofs.Sheet.{within}
+use Rattle.shift.proofs.Sheet.{drawn-within}
 use Rattle.contour.specs.Arrays.{along, Below}
 use Rattle.order.specs.Fitted.{Fitted}
 use Rattle.engine.specs.Shows.{Shows, Holds, Columned}
@@ -111,7 +111,7 @@ module _ (at ents vs rank : List ℕ) (A : Fitted at ents vs rank) (k : ℕ) (h 
   low : (u : ℕ) → In u (t .placed) → t .x u + 4 ≤ 2 * limit
   low u q =
       let few = fits-few G (A .vn) vs (A .plane) (A .fits) in
-      omega (arith, within (K .drawn) u q, ap length placed-is, length-take-le k vs i, A .most)
+      omega (arith, drawn-within (K .drawn) u q, ap length placed-is, length-take-le k vs i, A .most)
 
   on-placed : (u : ℕ) → In u (t .contour) → In u (t .placed)
   on-placed u q = subst⁻¹ (In u) placed-is (C .placed u q)

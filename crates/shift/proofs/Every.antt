@@ -18,9 +18,9 @@ use Rattle.placing.proofs.Steps.{Step, stage-next, stage-placed, step-at, at-ea
 use Rattle.drawing.specs.Meeting.{NoneMeet, OnGrid}
 use Rattle.words.proofs.Chains.{Chain}
 use Rattle.drawing.proofs.Build.{Built, Good}
-use Rattle.shift.proofs.Drawn.{places, Drawn}
+use Rattle.shift.proofs.Drawn.{placesOf, Drawn}
 use Rattle.shift.proofs.Next.{OneStep}
-use Rattle.shift.proofs.Sheet.{turns, no-short, low, within, grid, rising, even, contour-placed, in-some, in-one, group-placed}
+use Rattle.shift.proofs.Sheet.{turns, drawn-apart, low, drawn-within, grid, rising, even, contour-placed, in-some, in-one, group-placed}
 use Rattle.shift.proofs.Tied.{Tied, tied-third, tied-next, one-step, left-moves, inner-moves, right-moves}
 
 -- v1, v2 and v3 are three posts
@@ -66,7 +66,7 @@ module _ (G : List (List ℕ)) (vn : ℕ) (vs : List ℕ) (P : Plane G (post vs 
     wires-at u w a b = tied-at k h i .wires u w (rw placed-at a) (rw placed-at b)
 
     -- no triangle has turned over
-    pub turns-at : Good (places t) (tied-at k h i .B)
+    pub turns-at : Good (placesOf t) (tied-at k h i .B)
     turns-at = turns drawn-at
 
     -- the height is at most the column, and both together at most 2k - 4
@@ -74,10 +74,10 @@ module _ (G : List (List ℕ)) (vn : ℕ) (vs : List ℕ) (P : Plane G (post vs 
     low-at u a = low drawn-at u (rw placed-at a)
 
     pub within-at : (u : ℕ) → In u (take k vs) → t .x u + t .y u + 4 ≤ 2 * k
-    within-at u a = let c = count-at in omega (arith, within drawn-at u (rw placed-at a))
+    within-at u a = let c = count-at in omega (arith, drawn-within drawn-at u (rw placed-at a))
 
     -- different points of the grid 2k - 4 wide and k - 2 high
-    pub grid-at : OnGrid (places t) (λ u. In u (take k vs)) (2 * k - 4) (k - 2)
+    pub grid-at : OnGrid (placesOf t) (λ u. In u (take k vs)) (2 * k - 4) (k - 2)
     grid-at =
         record {
           inside = λ u a. (omega (arith, within-at u a), omega (arith, within-at u a, low-at u a));
@@ -85,8 +85,8 @@ module _ (G : List (List ℕ)) (vn : ℕ) (vs : List ℕ) (P : Plane G (post vs 
         }
 
     -- no two different wires meet except at a post they share
-    pub no-short-at : NoneMeet (places t) (Wire G (take k vs))
-    no-short-at a b c e f g = no-short drawn-at a b c e (wires-at a b (f .0) (f .1) (f .2)) (wires-at c e (g .0) (g .1) (g .2))
+    pub no-short-at : NoneMeet (placesOf t) (Wire G (take k vs))
+    no-short-at a b c e f g = drawn-apart drawn-at a b c e (wires-at a b (f .0) (f .1) (f .2)) (wires-at c e (g .0) (g .1) (g .2))
 
     -- the contour's columns rise from left to right, from v1 in column 0 to v2 in column 2k - 4; and x + y is even on it
     pub rising-at : Chain (λ a b. t .x a < t .x b) (t .contour)

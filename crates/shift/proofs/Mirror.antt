@@ -20,7 +20,7 @@ use Rattle.placing.specs.Stages.{Stage, third, place, stage}
 use Rattle.placing.proofs.Steps.{Step, place-placed, at-each-stage}
 use Rattle.drawing.specs.Areas.{PositiveArea}
 use Rattle.drawing.proofs.Build.{Build}
-use Rattle.shift.proofs.Drawn.{places}
+use Rattle.shift.proofs.Drawn.{placesOf}
 use Rattle.shift.proofs.Tri.{Tri, tri-turn}
 use Rattle.shift.proofs.Sheet.{turns}
 use Rattle.shift.proofs.Tied.{Tied, tied-third, third-tri, tied-next, tri-old, tri-new}
@@ -175,7 +175,7 @@ module _ (G : List (List ℕ)) (vn : ℕ) (vs : List ℕ) (P : Plane G (post vs 
 
   -- a triangle of the rings turns counter-clockwise, unless it is the outer one
   pub no-mirror-at : (u a b : ℕ) → Follows G u a b → In u (take k vs) → In a (take k vs) → In b (take k vs) → ¬ (OuterTriangle v1 v2 vn u a b)
-      → PositiveArea (places (stage G (take k vs))) u a b
+      → PositiveArea (placesOf (stage G (take k vs))) u a b
   no-mirror-at u a b f iu ia ib out = go (D .faces u a b (follows-after G u a b f) (rw e iu) (rw e ia) (rw e ib))
     where
       D : Faced G v1 v2 vn (stage G (take k vs))
@@ -184,10 +184,10 @@ module _ (G : List (List ℕ)) (vn : ℕ) (vs : List ℕ) (P : Plane G (post vs 
       e : stage G (take k vs) .placed ≡ take k vs
       e = placed-at G vn vs P A k h i
 
-      go : Accounted (D .tied .B) v1 v2 vn u a b → PositiveArea (places (stage G (take k vs))) u a b
-      go (over-u h) = let t = tri-turn (places (stage G (take k vs))) (D .tied .B) a b u (turns (D .tied .drawn)) h in omega (arith, t)
-      go (over-a h) = let t = tri-turn (places (stage G (take k vs))) (D .tied .B) b u a (turns (D .tied .drawn)) h in omega (arith, t)
-      go (over-b h) = tri-turn (places (stage G (take k vs))) (D .tied .B) u a b (turns (D .tied .drawn)) h
+      go : Accounted (D .tied .B) v1 v2 vn u a b → PositiveArea (placesOf (stage G (take k vs))) u a b
+      go (over-u h) = let t = tri-turn (placesOf (stage G (take k vs))) (D .tied .B) a b u (turns (D .tied .drawn)) h in omega (arith, t)
+      go (over-a h) = let t = tri-turn (placesOf (stage G (take k vs))) (D .tied .B) b u a (turns (D .tied .drawn)) h in omega (arith, t)
+      go (over-b h) = tri-turn (placesOf (stage G (take k vs))) (D .tied .B) u a b (turns (D .tied .drawn)) h
       go (outer h) = absurd (out h)
 
   -- before the last stage vn waits, and every triangle turns so
@@ -198,7 +198,7 @@ module _ (G : List (List ℕ)) (vn : ℕ) (vs : List ℕ) (P : Plane G (post vs 
       omega (arith, r .1)
 
   pub no-mirror-before : k < length G → (u a b : ℕ) → Follows G u a b → In u (take k vs) → In a (take k vs) → In b (take k vs)
-      → PositiveArea (places (stage G (take k vs))) u a b
+      → PositiveArea (placesOf (stage G (take k vs))) u a b
   no-mirror-before l u a b f iu ia ib =
       no-mirror-at u a b f iu ia ib
       (elim [ inl t ↦ vn-waits l b ib (t .2) | inr r ↦ elim r [ inl t ↦ vn-waits l a ia (t .1) | inr t ↦ vn-waits l u iu (t .0) ] ])

@@ -15,7 +15,7 @@ use Rattle.drawing.proofs.Build.{Build, post, Post, on-contour}
 use Rattle.shift.proofs.Groups.{sides}
 use Rattle.shift.proofs.Group.{Regroup, Moved, lo, mi, hi, moved}
 use Rattle.shift.proofs.Shifting.{Shifts, laid-next}
-use Rattle.shift.proofs.Drawn.{places, Drawn}
+use Rattle.shift.proofs.Drawn.{placesOf, Drawn}
 use Rattle.placing.proofs.Placed.{movedBy}
 use Rattle.shift.proofs.Over.{over, before-run, inside, after-run, ends, ones, in-ones, by-0, by-1, by-2, placed-over}
 
@@ -90,7 +90,7 @@ module _ (t : Stage) (X : List ℕ) (p : ℕ) (M : List ℕ) (q : ℕ) (Y : List
       let e : g' u ≡ g u + g p + 2 - g q = g-old u h ∙ rw (lt-leb (g u) (g p) (omega arith), le-leb (g q) (g u) k) in
       omega arith
 
-  regroup : Regroup (places t) (places t') g g' (Post B) p q v 1 2
+  regroup : Regroup (placesOf t) (placesOf t') g g' (Post B) p q v 1 2
   regroup =
       record {
         level = y-old;
@@ -113,10 +113,10 @@ module _ (t : Stage) (X : List ℕ) (p : ℕ) (M : List ℕ) (q : ℕ) (Y : List
   on-q = on-contour B q in-q
 
   abbrev Moves-of : ℕ → Type 0
-  Moves-of = Moved (places t) (places t') g g' (Post B) p q v 1 2 regroup
+  Moves-of = Moved (placesOf t) (placesOf t') g g' (Post B) p q v 1 2 regroup
 
   moves-of : (u : ℕ) → Post B u → Moves-of u
-  moves-of = moved (places t) (places t') g g' (Post B) p q v 1 2 regroup
+  moves-of = moved (placesOf t) (placesOf t') g g' (Post B) p q v 1 2 regroup
 
   right : (u : ℕ) → Moves-of u → (t .x u ≤ t' .x u) × (t' .x u ≤ t .x u + 2)
   right u (lo a b e) = omega arith
@@ -149,7 +149,7 @@ module _ (t : Stage) (X : List ℕ) (p : ℕ) (M : List ℕ) (q : ℕ) (Y : List
         exact-y = omega arith;
       }
 
-  step-of : Shifts (places t) (places t') g g' (Post B) p q v
+  step-of : Shifts (placesOf t) (placesOf t') g g' (Post B) p q v
   step-of = record { shift = regroup; v-sum = omega (arith, one-step); v-dif = omega (arith, one-step) }
 
   -- ---- the groups
@@ -270,7 +270,7 @@ module _ (t : Stage) (X : List ℕ) (p : ℕ) (M : List ℕ) (q : ℕ) (Y : List
         width = D .width + 2;
         wide = omega (arith, D .wide, ap length placed', length-append (t .placed) (v ∷ []));
         g = g';
-        laid = laid-next (places t) (places t') g g' (D .width) X p M q Y v B (D .laid) step-of;
+        laid = laid-next (placesOf t) (placesOf t') g g' (D .width) X p M q Y v B (D .laid) step-of;
         headed = headed';
         in-group = in-group';
         grouped = grouped';

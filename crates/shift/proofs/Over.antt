@@ -18,7 +18,7 @@ use Rattle.words.proofs.Tests.{mem-true, mem-false}
 use Rattle.shift.proofs.Groups.{in-groups, groups-in, sides}
 use Rattle.shift.proofs.Group.{to-q, from-p, upto-p, onto-q}
 use Rattle.shift.proofs.Shifting.{Onward, onward-trans}
-use Rattle.shift.proofs.Drawn.{places, Drawn}
+use Rattle.shift.proofs.Drawn.{placesOf, Drawn}
 
 -- C₁ is the contour up to p, C₂ from q on
 unfoldable pub over : Stage → (p q : ℕ) → (M C₁ C₂ : List ℕ) → ℕ → Stage
@@ -43,10 +43,10 @@ module _ (t : Stage) (X : List ℕ) (p : ℕ) (M : List ℕ) (q : ℕ) (Y : List
   open Drawn D using (g)
 
   abbrev E : ℕ → ℕ → Type 0
-  E = Onward (places t) g
+  E = Onward (placesOf t) g
 
   abbrev trans : (a b c : ℕ) → E a b → E b c → E a c
-  trans = onward-trans (places t) g
+  trans = onward-trans (placesOf t) g
 
   abbrev grow : (a b : ℕ) → E a b → g a < g b
   grow a b h = h .ord
@@ -65,7 +65,7 @@ module _ (t : Stage) (X : List ℕ) (p : ℕ) (M : List ℕ) (q : ℕ) (Y : List
     in-right a X (p ∷ (M ++ q ∷ Y)) (inr (in-left a M (q ∷ Y) i)),
   )
 
-  pub ends : Onward (places t) g p q
+  pub ends : Onward (placesOf t) g p q
   ends = to-q g X p M q Y E trans grow (D .laid .rise) p (inl refl)
 
   -- the posts that move by 1

@@ -14,7 +14,7 @@ use Rattle.drawing.proofs.Static.{none-meet, different}
 use Rattle.shift.proofs.Tri.{Tri}
 use Rattle.shift.proofs.Shift.{good}
 use Rattle.shift.proofs.Shifting.{Onward, onward-trans}
-use Rattle.shift.proofs.Drawn.{places, Drawn}
+use Rattle.shift.proofs.Drawn.{placesOf, Drawn}
 
 -- a place on the contour is one post's
 one-place : (s : Places) (g : ℕ → ℕ) (l : List ℕ) (a b : ℕ) → Chain (Onward s g) l → In a l → In b l → g a ≡ g b → a ≡ b
@@ -25,26 +25,26 @@ one-place s g (c ∷ d ∷ l) a b h (inr i) (inr j) e = one-place s g (d ∷ l) 
 
 module _ {t : Stage} {C : List ℕ} {B : Build C} (D : Drawn t B) where
   -- each post is well placed over its run: no triangle has turned over
-  pub turns : Good (places t) B
-  turns = good (places t) (D .g) B (D .laid .kept)
+  pub turns : Good (placesOf t) B
+  turns = good (placesOf t) (D .g) B (D .laid .kept)
 
   -- no two different wires meet except at a post they share
-  pub no-short : NoneMeet (places t) (λ a b. Built B a b ⊎ Built B b a)
-  no-short = none-meet (places t) B turns
+  pub drawn-apart : NoneMeet (placesOf t) (λ a b. Built B a b ⊎ Built B b a)
+  drawn-apart = none-meet (placesOf t) B turns
 
   -- the height is at most the column, and both together at most 2k - 4
   pub low : (u : ℕ) → In u (t .placed) → t .y u ≤ t .x u
   low u h = D .laid .bounds u (D .placed u h) .0
 
-  pub within : (u : ℕ) → In u (t .placed) → t .x u + t .y u + 4 ≤ 2 * length (t .placed)
-  within u h = omega (arith, D .laid .bounds u (D .placed u h) .1, D .wide)
+  pub drawn-within : (u : ℕ) → In u (t .placed) → t .x u + t .y u + 4 ≤ 2 * length (t .placed)
+  drawn-within u h = omega (arith, D .laid .bounds u (D .placed u h) .1, D .wide)
 
   -- different points of the grid 2k - 4 wide and k - 2 high
-  pub grid : OnGrid (places t) (λ u. In u (t .placed)) (2 * length (t .placed) - 4) (length (t .placed) - 2)
+  pub grid : OnGrid (placesOf t) (λ u. In u (t .placed)) (2 * length (t .placed) - 4) (length (t .placed) - 2)
   grid =
       record {
-        inside = λ u h. (omega (arith, within u h), omega (arith, within u h, low u h));
-        different = λ u w h i. different (places t) B turns u w (D .placed u h) (D .placed w i);
+        inside = λ u h. (omega (arith, drawn-within u h), omega (arith, drawn-within u h, low u h));
+        different = λ u w h i. different (placesOf t) B turns u w (D .placed u h) (D .placed w i);
       }
 
   -- the contour: columns rise from left to right, and x + y is even
@@ -68,7 +68,7 @@ module _ {t : Stage} {C : List ℕ} {B : Build C} (D : Drawn t B) where
   in-one a b u i j h k =
       let i' = subst (In a) (D .contour) i in
       let j' = subst (In b) (D .contour) j in
-      one-place (places t) (D .g) C a b (D .laid .rise) i' j' (sym (D .in-group a u i' h .1) ∙ D .in-group b u j' k .1)
+      one-place (placesOf t) (D .g) C a b (D .laid .rise) i' j' (sym (D .in-group a u i' h .1) ∙ D .in-group b u j' k .1)
 
   pub group-placed : (c u : ℕ) → In c (t .contour) → In u (t .group c) → In u (t .placed)
   group-placed c u i h = D .posts u (D .in-group c u (subst (In c) (D .contour) i) h .0)

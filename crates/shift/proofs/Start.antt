@@ -13,7 +13,7 @@ use Rattle.drawing.specs.Areas.{PositiveArea}
 use Rattle.drawing.proofs.Build.{Build, base, post, Post, on-contour}
 use Rattle.shift.proofs.Shift.{HeldPair}
 use Rattle.shift.proofs.Shifting.{Laid}
-use Rattle.shift.proofs.Drawn.{places, Drawn}
+use Rattle.shift.proofs.Drawn.{placesOf, Drawn}
 
 abbrev pub three : (a b c : ℕ) → Build (a ∷ c ∷ b ∷ [])
 three a b c = post [] a [] b [] c (base a b)
@@ -59,22 +59,22 @@ module _ (v1 v2 v3 : ℕ) (d12 : v1 ≢ v2) (d13 : v1 ≢ v3) (d23 : v2 ≢ v3) 
   abbrev g : ℕ → ℕ
   g = t .x
 
-  pub first-post : Corner (places t) g v1 0 0 0
+  pub first-post : Corner (placesOf t) g v1 0 0 0
   unfolding third
   first-post =
       record { isX = rw (ne-eqb v1 v3 d13, ne-eqb v1 v2 d12); isY = rw (ne-eqb v1 v3 d13); place = rw (ne-eqb v1 v3 d13, ne-eqb v1 v2 d12) }
 
-  pub second-post : Corner (places t) g v2 2 0 2
+  pub second-post : Corner (placesOf t) g v2 2 0 2
   unfolding third
   second-post =
       record { isX = rw (ne-eqb v2 v3 d23, eq-eqb v2 v2 refl); isY = rw (ne-eqb v2 v3 d23); place = rw (ne-eqb v2 v3 d23, eq-eqb v2 v2 refl) }
 
-  third-post : Corner (places t) g v3 1 1 1
+  third-post : Corner (placesOf t) g v3 1 1 1
   unfolding third
   third-post = record { isX = rw (eq-eqb v3 v3 refl); isY = rw (eq-eqb v3 v3 refl); place = rw (eq-eqb v3 v3 refl) }
 
   on-all : (u : ℕ) → Post (three v1 v2 v3) u → In u (v1 ∷ v3 ∷ v2 ∷ [])
-  on-all = on (places t) g v1 v2 v3 first-post second-post third-post
+  on-all = on (placesOf t) g v1 v2 v3 first-post second-post third-post
 
   -- a post from its place
   back : (u : ℕ) → In u (v1 ∷ v3 ∷ v2 ∷ []) → getD (v1 ∷ v3 ∷ v2 ∷ []) (g u) 0 ≡ u
@@ -93,7 +93,7 @@ module _ (v1 v2 v3 : ℕ) (d12 : v1 ≢ v2) (d13 : v1 ≢ v3) (d23 : v2 ≢ v3) 
         width = 2;
         wide = refl;
         g = g;
-        laid = laid-first (places t) g v1 v2 v3 first-post second-post third-post;
+        laid = laid-first (placesOf t) g v1 v2 v3 first-post second-post third-post;
         headed = λ u h. (u, on-all u h, refl);
         in-group = λ c u i. elim [ inl e ↦ (subst⁻¹ (Post (three v1 v2 v3)) e (on-contour (three v1 v2 v3) c i), ap g e) | inr z ↦ absurd z ];
         grouped = λ c u i h e. inl (sym (back u (on-all u h)) ∙ ap (λ (k : ℕ). getD (v1 ∷ v3 ∷ v2 ∷ []) k 0) e ∙ back c i);

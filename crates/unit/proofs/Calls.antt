@@ -61,8 +61,8 @@ pub name-passes : (s : List ℕ) (u : ℕ) → u < posts s → NoneApplies (name
 name-passes s u h = (lt-leb (posts s) u h, tt)
 
 -- where none applies, the stage and what is asked of it fit
-pub stage-within : (ask : Ask) (s : List ℕ) (k room : ℕ) → NoneApplies (furtherRows ask k room) s → (3 ≤ k) × (k ≤ posts s)
-stage-within ask s k room h =
+pub asked-stage : (ask : Ask) (s : List ℕ) (k room : ℕ) → NoneApplies (furtherRows ask k room) s → (3 ≤ k) × (k ≤ posts s)
+asked-stage ask s k room h =
     let in-range = neither (ltb k 3) (ltb (posts s) k) (h .0) in
     (ltb-false k 3 (in-range .0), ltb-false (posts s) k (in-range .1))
 

@@ -9,7 +9,7 @@ use Rattle.block.specs.Layout.{limit}
 use lib.Seq.{length-take-le}
 use Rattle.unit.specs.Asked.{furtherRows}
 use Rattle.lamp.proofs.Steps.{none-applied}
-use Rattle.unit.proofs.Calls.{stage-within, within, row-refuses, serves, length-is, many-is, to-engine, stage-is}
+use Rattle.unit.proofs.Calls.{asked-stage, within, row-refuses, serves, length-is, many-is, to-engine, stage-is}
 
 further-requires : tie.Need-further-requires
 further-requires c κs = search needs
@@ -58,7 +58,7 @@ drawn-requires c κs =
     let ask = entry .args .ask in
     let asked = asking .further in
     let none = none-applied s (furtherRows ask k (length b)) (asked .result) (asked .ensures) _ (past .enum-told .given .1) in
-    let in-range = stage-within ask s k (length b) none in
+    let in-range = asked-stage ask s k (length b) none in
     let R = entry .pre .1 in
     let room : limit < length (entry .args .at .now) = omega (arith, entry .pre .2 .places) in
     let counted = c .before .before .before .before .entries in
@@ -79,7 +79,7 @@ mul-t15 c =
     let ask = entry .args .ask in
     let asked = asking .further in
     let none = none-applied s (furtherRows ask k (length b)) (asked .result) (asked .ensures) _ (past .enum-told .given .1) in
-    let in-range = stage-within ask s k (length b) none in
+    let in-range = asked-stage ask s k (length b) none in
     omega (arith, in-range .1, entry .pre .1 .headed .is, entry .pre .1 .headed .most)
 
 cast-t25 : tie.Need-cast-t25
@@ -94,7 +94,7 @@ cast-t25 c =
     let ask = entry .args .ask in
     let asked = asking .further in
     let none = none-applied s (furtherRows ask k (length b)) (asked .result) (asked .ensures) _ (past .enum-told .given .1) in
-    let in-range = stage-within ask s k (length b) none in
+    let in-range = asked-stage ask s k (length b) none in
     omega (arith, in-range .1, entry .pre .1 .headed .is, entry .pre .1 .headed .most)
 
 same-length : tie.Need-same-length
@@ -112,7 +112,7 @@ returns-2 c =
     let ask = entry .args .ask in
     let asked = asking .further in
     let none = none-applied s (furtherRows ask k (length b)) (asked .result) (asked .ensures) _ (past .enum-told .given .1) in
-    let in-range = stage-within ask s k (length b) none in
+    let in-range = asked-stage ask s k (length b) none in
     let R = entry .pre .1 in
     let room : limit < length (entry .args .at .now) = omega (arith, entry .pre .2 .places) in
     let counted = done .before .before .before .before .before .entries in
