@@ -34,22 +34,19 @@ module _ (at ents vs rank : List ℕ) (A : Fitted at ents vs rank) (k : ℕ) (h 
   abbrev s : Step (held at ents) (stage (held at ents) (take k vs)) (post vs (k + 1))
   s = step-at (held at ents) (A .vn) vs (A .plane) (A .fits) k h i
 
-  placed-is : stage (held at ents) (take k vs) .placed ≡ take k vs
-  placed-is = stage-placed G vs k h (omega arith)
-
   names : (a : ℕ) → In a (stage (held at ents) (take k vs) .placed) → a < length (held at ents)
   names a q =
-      let w = in-take k vs a (subst (In a) placed-is q) in
+      let w = in-take k vs a (subst (In a) (stage-placed G vs k h (omega arith)) q) in
       subst (λ (c : ℕ). c < length (held at ents)) (w .3) (A .fits .below (getD vs (w .0) 0) (place-in vs (w .0) (w .2)))
 
   few : length (stage (held at ents) (take k vs) .placed) ≤ limit
-  few = omega (arith, ap length placed-is, length-take-le k vs (omega arith), fits-few G (A .vn) vs (A .plane) (A .fits), A .most)
+  few = omega (arith, ap length (stage-placed G vs k h (omega arith)), length-take-le k vs (omega arith), fits-few G (A .vn) vs (A .plane) (A .fits), A .most)
 
   K : Kept (stage (held at ents) (take k vs))
   K = kept-at G (A .vn) vs (A .plane) (A .fits) k h (omega arith)
 
   run-is : run (held at ents) (take k vs) (post vs (k + 1)) ≡ s .p ∷ (s .M ++ s .q ∷ [])
-  run-is = subst (λ (l : List ℕ). run (held at ents) l (post vs (k + 1)) ≡ s .p ∷ (s .M ++ s .q ∷ [])) placed-is (s .run-is)
+  run-is = subst (λ (l : List ℕ). run (held at ents) l (post vs (k + 1)) ≡ s .p ∷ (s .M ++ s .q ∷ [])) (stage-placed G vs k h (omega arith)) (s .run-is)
 
   -- v is the next post; its run has m posts, the first is p
   module _ (v p m : ℕ) (ev : v ≡ getD vs k 0) (ep : p ≡ post (run (held at ents) (take k vs) (post vs (k + 1))) 1)

@@ -93,9 +93,6 @@ module _ (at ents vs rank : List ℕ) (A : Fitted at ents vs rank) (k : ℕ) (h 
   C : Contour (After G) (post vs 1) (post vs 2) (take k vs) (t .contour)
   C = contours G (A .vn) vs (A .plane) (A .fits) k h i
 
-  placed-is : t .placed ≡ take k vs
-  placed-is = stage-placed G vs k h i
-
   once : Once vs
   once = fits-once G (A .vn) vs (A .plane) (A .fits)
 
@@ -103,18 +100,18 @@ module _ (at ents vs rank : List ℕ) (A : Fitted at ents vs rank) (k : ℕ) (h 
   name j l = A .fits .below (getD vs j 0) (place-in vs j (omega arith))
 
   placed-at : (j : ℕ) → j < k → In (getD vs j 0) (t .placed)
-  placed-at j l = subst⁻¹ (In (getD vs j 0)) placed-is (take-in k vs j l (omega arith))
+  placed-at j l = subst⁻¹ (In (getD vs j 0)) (stage-placed G vs k h i) (take-in k vs j l (omega arith))
 
   position : (u : ℕ) → In u (t .placed) → (j : ℕ) × (j < k) × (getD vs j 0 ≡ u)
-  position u q = let w = in-take k vs u (subst (In u) placed-is q) in (w .0, w .1, w .3)
+  position u q = let w = in-take k vs u (subst (In u) (stage-placed G vs k h i) q) in (w .0, w .1, w .3)
 
   low : (u : ℕ) → In u (t .placed) → t .x u + 4 ≤ 2 * limit
   low u q =
       let few = fits-few G (A .vn) vs (A .plane) (A .fits) in
-      omega (arith, drawn-within (K .drawn) u q, ap length placed-is, length-take-le k vs i, A .most)
+      omega (arith, drawn-within (K .drawn) u q, ap length (stage-placed G vs k h i), length-take-le k vs i, A .most)
 
   on-placed : (u : ℕ) → In u (t .contour) → In u (t .placed)
-  on-placed u q = subst⁻¹ (In u) placed-is (C .placed u q)
+  on-placed u q = subst⁻¹ (In u) (stage-placed G vs k h i) (C .placed u q)
 
   named : (u : ℕ) → In u (t .contour) → u < length G
   named u q = let w = position u (on-placed u q) in subst (λ (a : ℕ). a < length G) (w .2) (name (w .0) (w .1))
@@ -124,7 +121,7 @@ module _ (at ents vs rank : List ℕ) (A : Fitted at ents vs rank) (k : ℕ) (h 
   among u q = let w = position u (on-placed u q) in subst (λ (a : ℕ). In a vs) (w .2) (place-in vs (w .0) (omega (arith, w .1)))
 
   v1-is : post (t .placed) 1 ≡ getD vs 0 0
-  v1-is = ap (λ (l : List ℕ). post l 1) placed-is ∙ getD-take k vs 0 0 (omega arith)
+  v1-is = ap (λ (l : List ℕ). post l 1) (stage-placed G vs k h i) ∙ getD-take k vs 0 0 (omega arith)
 
   record Whole : Type 0 where
     L : List ℕ
@@ -192,7 +189,7 @@ module _ (at ents vs rank : List ℕ) (A : Fitted at ents vs rank) (k : ℕ) (h 
   -- the post that covers another one stands in a later position
   pub covered-later : (j : ℕ) → j < k → ¬ (In (getD vs j 0) (t .contour)) → (m : ℕ) × (j < m) × (m < k) × (getD vs m 0 ≡ t .cover (getD vs j 0))
   covered-later j l q =
-      let e = placed-is in
+      let e = stage-placed G vs k h i in
       let len : length (t .placed) ≡ k = ap length e ∙ length-take-le k vs i in
       let here : getD (t .placed) j 0 ≡ getD vs j 0 = ap (λ (r : List ℕ). getD r j 0) e ∙ getD-take k vs j 0 l in
       let w = K .behind j (omega (arith, len)) (λ z. q (subst (λ (a : ℕ). In a (t .contour)) here z)) in

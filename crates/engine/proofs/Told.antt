@@ -101,23 +101,20 @@ module _ (at ents vs rank : List ℕ) (A : Fitted at ents vs rank) (k : ℕ) (h 
   abbrev S : Shows t ys off cover left right
   S = D .holds .shows
 
-  placed-is : t .placed ≡ take k vs
-  placed-is = stage-placed G vs k h i
-
   pub entries-are : pairs xs ys (take k vs) ≡ entriesOf t
   unfolding entriesOf
   entries-are =
-      ap (pairs xs ys) (sym placed-is)
+      ap (pairs xs ys) (sym (stage-placed G vs k h i))
       ∙ pairs-same xs ys (t .x) (t .y) (t .placed) (λ u q. (D .column u q, S .height u q))
 
   C : Contour (After G) (post vs 1) (post vs 2) (take k vs) (t .contour)
   C = contours G (A .vn) vs (A .plane) (A .fits) k h i
 
   v1-is : post (t .placed) 1 ≡ post vs 1
-  v1-is = ap (λ (l : List ℕ). post l 1) placed-is ∙ getD-take k vs 0 0 (omega arith)
+  v1-is = ap (λ (l : List ℕ). post l 1) (stage-placed G vs k h i) ∙ getD-take k vs 0 0 (omega arith)
 
   v2-is : post (t .placed) 2 ≡ post vs 2
-  v2-is = ap (λ (l : List ℕ). post l 2) placed-is ∙ getD-take k vs 1 0 (omega arith)
+  v2-is = ap (λ (l : List ℕ). post l 2) (stage-placed G vs k h i) ∙ getD-take k vs 1 0 (omega arith)
 
   left-at : (u : ℕ) → In u (t .contour) → getD left u 0 ≡ leftOf (t .contour) u
   left-at u q = go (t .contour) (C .first) (C .once) q (λ a. S .left-is a u)
@@ -148,7 +145,7 @@ module _ (at ents vs rank : List ℕ) (A : Fitted at ents vs rank) (k : ℕ) (h 
   -- nobody covers himself
   other : (u : ℕ) → In u (t .placed) → ¬ (In u (t .contour)) → ¬ (getD cover u 0 ≡ u)
   other u q n e =
-      let w = in-take k vs u (subst (In u) placed-is q) in
+      let w = in-take k vs u (subst (In u) (stage-placed G vs k h i) q) in
       let l = covered-later at ents vs rank A k h i ys off cover left right (D .holds) xs (D .roomy) (w .0) (w .1)
       (λ c. n (subst (λ (a : ℕ). In a (t .contour)) (w .3) c)) in
       let f : getD vs (l .0) 0 ≡ getD vs (w .0) 0 = l .3 ∙ ap (t .cover) (w .3) ∙ sym (S .covers u q n) ∙ e ∙ sym (w .3) in
@@ -178,7 +175,7 @@ module _ (at ents vs rank : List ℕ) (A : Fitted at ents vs rank) (k : ℕ) (h 
   record-is u l = go (in-dec u (t .placed))
     where
       is-placed : mem (t .placed) u ≡ before rank (k + 1) u
-      is-placed = ap (λ (r : List ℕ). mem r u) placed-is ∙ placed-by (length G) vs rank (A .ranked) k i u l
+      is-placed = ap (λ (r : List ℕ). mem r u) (stage-placed G vs k h i) ∙ placed-by (length G) vs rank (A .ranked) k i u l
 
       go : Dec (In u (t .placed)) → recordBy rank k xs ys cover left right u
           ≡ cond (mem (t .placed) u)
