@@ -9,7 +9,7 @@ use lib.ListN.{length, getD, take, length-append, List·getD-append}
 use lib.Seq.{getD-at}
 use Rattle.words.specs.Lists.{In, Head}
 use Rattle.words.specs.Positions.{post}
-use Rattle.words.proofs.Lists.{in-head, head-same, in-dec, in-left, in-right, in-cases, swap-in}
+use Rattle.words.proofs.Lists.{in-head, head-same, in-dec, in-left, in-right, in-cases, swap-in, filled}
 use Rattle.words.proofs.Tests.{eqb-same, eqb-other, place-in, mem-true, mem-false}
 use Rattle.rings.specs.Plane.{Plane}
 use Rattle.order.specs.Fitting.{FitsSoFar}
@@ -245,11 +245,7 @@ module _ (G : List (List ℕ)) (t : Stage) (v : ℕ) (s : Step G t v) (K : Kept 
   -- v1 stays where it is
   pub first-kept : post (t' .placed) 1 ≡ post (t .placed) 1
   first-kept = ap (λ (l : List ℕ). post l 1) (place-placed G t v) ∙ List·getD-append (t .placed) (v ∷ []) 0 0
-      (some (t .placed) (s .p) (s .on-placed (s .p) (rw (s .before) (in-right (s .p) (s .X) (s .p ∷ (s .M ++ s .q ∷ s .Y)) (inl refl)))))
-    where
-      some : (l : List ℕ) (a : ℕ) → In a l → 0 < length l
-      some [] a h = absurd h
-      some (x ∷ l) a h = omega arith
+      (filled (t .placed) (s .p) (s .on-placed (s .p) (rw (s .before) (in-right (s .p) (s .X) (s .p ∷ (s .M ++ s .q ∷ s .Y)) (inl refl)))))
 
   pub first-on : In (post (t .placed) 1) (s .X ++ s .p ∷ [])
   first-on = in-head (post (t .placed) 1) (s .X ++ s .p ∷ [])
@@ -269,6 +265,12 @@ module _ (G : List (List ℕ)) (t : Stage) (v : ℕ) (s : Step G t v) (K : Kept 
   }
 
 -- stage 3 covers nobody
+pub on-third : (v1 v2 v3 u : ℕ) → In u (v1 ∷ v2 ∷ v3 ∷ []) → In u (v1 ∷ v3 ∷ v2 ∷ [])
+on-third v1 v2 v3 u (inl e) = inl e
+on-third v1 v2 v3 u (inr (inl e)) = inr (inr (inl e))
+on-third v1 v2 v3 u (inr (inr (inl e))) = inr (inl e)
+on-third v1 v2 v3 u (inr (inr (inr z))) = absurd z
+
 pub kept-third : (v1 v2 v3 : ℕ) → v1 ≢ v2 → v1 ≢ v3 → v2 ≢ v3 → Kept (third v1 v2 v3)
 unfolding third
 kept-third v1 v2 v3 d12 d13 d23 =
@@ -276,16 +278,10 @@ kept-third v1 v2 v3 d12 d13 d23 =
       C = v1 ∷ v3 ∷ v2 ∷ [];
       B = three v1 v2 v3;
       drawn = start v1 v2 v3 d12 d13 d23;
-      together = λ u c h n. absurd (n (on u h));
+      together = λ u c h n. absurd (n (on-third v1 v2 v3 u h));
       origin = rw (eqb-other v1 v3 d13, eqb-other v1 v2 d12) refl;
-      behind = λ i h n. absurd (n (on (getD (v1 ∷ v2 ∷ v3 ∷ []) i 0) (place-in (v1 ∷ v2 ∷ v3 ∷ []) i h)));
+      behind = λ i h n. absurd (n (on-third v1 v2 v3 (getD (v1 ∷ v2 ∷ v3 ∷ []) i 0) (place-in (v1 ∷ v2 ∷ v3 ∷ []) i h)));
     }
-  where
-    on : (u : ℕ) → In u (v1 ∷ v2 ∷ v3 ∷ []) → In u (v1 ∷ v3 ∷ v2 ∷ [])
-    on u (inl e) = inl e
-    on u (inr (inl e)) = inr (inr (inl e))
-    on u (inr (inr (inl e))) = inr (inl e)
-    on u (inr (inr (inr z))) = absurd z
 
 -- every stage of a list that fits so far
 pub kept-at : (G : List (List ℕ)) (vn : ℕ) (vs : List ℕ) → Plane G (post vs 1) (post vs 2) vn → FitsSoFar G vn vs

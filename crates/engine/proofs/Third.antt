@@ -15,6 +15,7 @@ use Rattle.placing.proofs.Steps.{stage-third}
 use Rattle.order.specs.Fitted.{Fitted}
 use Rattle.engine.specs.Shows.{Shows, Room, Corners, Holds}
 use Rattle.shift.proofs.Every.{three-differ}
+use Rattle.engine.proofs.Kept.{on-third}
 
 module _ (v1 v2 v3 : ℕ) (d12 : v1 ≢ v2) (d13 : v1 ≢ v3) (d23 : v2 ≢ v3) where
   -- three stores
@@ -64,12 +65,6 @@ module _ (v1 v2 v3 : ℕ) (d12 : v1 ≢ v2) (d13 : v1 ≢ v3) (d23 : v2 ≢ v3) 
   by-adj a b f g (inr (inr (inl h))) = absurd (h .1)
   by-adj a b f g (inr (inr (inr h))) = absurd h
 
-  on : (u : ℕ) → In u (v1 ∷ v2 ∷ v3 ∷ []) → In u (v1 ∷ v3 ∷ v2 ∷ [])
-  on u (inl e) = inl e
-  on u (inr (inl e)) = inr (inr (inl e))
-  on u (inr (inr (inl e))) = inr (inl e)
-  on u (inr (inr (inr z))) = absurd z
-
   module _ (n : ℕ) (ys off cover left right : List ℕ) (W : Room n ys off cover left right) (b1 : v1 < n) (b2 : v2 < n) (b3 : v3 < n) where
     pub third-shows : Shows t (Set3 ys 0 0 1) (Set3 off 0 1 1) (Set3 cover v1 v2 v3) (Set3 left v1 v3 v1) (Set3 right v3 v2 v2)
     unfolding third
@@ -86,8 +81,8 @@ module _ (v1 v2 v3 : ℕ) (d12 : v1 ≢ v2) (d13 : v1 ≢ v3) (d23 : v2 ≢ v3) 
           first = at1 left v1 v3 v1 (omega (arith, W)) (omega (arith, W)) (omega (arith, W));
           last = at2 right v3 v2 v2 (omega (arith, W)) (omega (arith, W)) (omega (arith, W));
           bare = bare;
-          covers = λ u h m. absurd (m (on u h));
-          hangs = λ u h m. absurd (m (on u h));
+          covers = λ u h m. absurd (m (on-third v1 v2 v3 u h));
+          hangs = λ u h m. absurd (m (on-third v1 v2 v3 u h));
         }
       where
         height : (u : ℕ) → In u (v1 ∷ v2 ∷ v3 ∷ []) → getD (Set3 ys 0 0 1) u 0 ≡ t .y u

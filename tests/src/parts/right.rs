@@ -108,10 +108,12 @@ fn sample_of_stages(n: usize) -> Vec<usize> {
     vec![3, 4, n / 3, n / 3 + 1, 2 * n / 3, 2 * n / 3 + 1, n - 1, n]
 }
 
-/// The stack that a thread needs for the longest block, the thread's own
-/// start included. A thread that runs out of it ends the whole run.
-const CHECK_STACK: usize = 28 * 1024;
-const SHEET_STACK: usize = 40 * 1024;
+/// The stack that a thread needs for the longest block: the arrays' bytes for
+/// each post (docs/PROMISES.md, Memory), and room for the rest of the frames
+/// and for the thread's own use.
+const FRAMES: usize = 7 * 1024;
+const CHECK_STACK: usize = 21 * MOST + FRAMES;
+const SHEET_STACK: usize = 33 * MOST + FRAMES;
 
 pub fn small_stacks(trial: &mut Trial) {
     let n = MOST;
