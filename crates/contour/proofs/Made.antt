@@ -5,7 +5,7 @@ use mathlib.Core.List.{List}
 use native.Mathlib.Omega.{arith}
 use lib.ListN.{length, getD, set}
 use Rattle.block.specs.Layout.{bias}
-use Rattle.contour.specs.Arrays.{path, walk, along, Below, covered, hung, Fits, dropOf, riseOf, runEnd, farAt, newOff, newHeight, Spans, Ready, Over}
+use Rattle.contour.specs.Arrays.{path, walk, along, Below, covered, hung, SumsFit, dropOf, riseOf, runEnd, farAt, newOff, newHeight, Spans, Ready, Over}
 
 -- ---- the spot
 module _ (p m : ℕ) (ys off right : List ℕ) (S : Spans p m ys off right) (end sum i j : ℕ) (e1 : end ≡ walk right p (m - 1))
@@ -33,7 +33,7 @@ module _ (v p m : ℕ) (ys off cover left right : List ℕ) (R : Ready v p m ys 
     abbrev between : List ℕ
     between = path right (getD right i 0) (m - 2)
 
-    pub hang-ready : Below (length right) between × Below (length off) between × Below (length cover) between × Fits off between 1 d × (d ≤ bias)
+    pub hang-ready : Below (length right) between × Below (length off) between × Below (length cover) between × SumsFit off between 1 d × (d ≤ bias)
     hang-ready = rw (ei, spot .2) (R .in-right, R .in-off, R .in-cover, R .fits, R .off-fits)
 
     pub made : (k : ℕ) → k ≡ v → (off₁ cover₁ off₂ left₂ right₂ : List ℕ) → off₁ ≡ hung off between 1 d → cover₁ ≡ covered cover between v

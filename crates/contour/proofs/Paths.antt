@@ -6,7 +6,7 @@ use native.Mathlib.Omega.{arith}
 use native.Mathlib.Nat.{sub-zero}
 use lib.ListN.{length, getD, set, length-set}
 use Rattle.block.specs.Layout.{bias}
-use Rattle.contour.specs.Arrays.{path, walk, along, Below, covered, hung, Fits}
+use Rattle.contour.specs.Arrays.{path, walk, along, Below, covered, hung, SumsFit}
 
 -- with i of m turns done
 module _ (right : List ℕ) (a i m : ℕ) where
@@ -107,7 +107,7 @@ pub record Hang (right off₀ cover₀ : List ℕ) (first m d v : ℕ) (off cove
   pub upto : i ≤ m
   pub offs : hung off (path right a (m - i)) s d ≡ hung off₀ (path right first m) 1 d
   pub covers : covered cover (path right a (m - i)) v ≡ covered cover₀ (path right first m) v
-  pub fits : Fits off (path right a (m - i)) s d
+  pub fits : SumsFit off (path right a (m - i)) s d
   pub same-off : length off ≡ length off₀
   pub same-cover : length cover ≡ length cover₀
   pub in-right : Below (length right) (path right a (m - i))
@@ -116,7 +116,7 @@ pub record Hang (right off₀ cover₀ : List ℕ) (first m d v : ℕ) (off cove
 
 module _ (right off₀ cover₀ : List ℕ) (first m d v : ℕ) where
   pub hang-start : Below (length right) (path right first m) → Below (length off₀) (path right first m) → Below (length cover₀) (path right first m)
-      → Fits off₀ (path right first m) 1 d
+      → SumsFit off₀ (path right first m) 1 d
       → Hang right off₀ cover₀ first m d v off₀ cover₀ first 1 0
   hang-start h k l f =
       let z = sub-zero m in
@@ -156,8 +156,8 @@ module _ (right off₀ cover₀ : List ℕ) (first m d v : ℕ) where
       pub hang-cover : j < length cover
       hang-cover = omega (arith, R .same-cover, subst (Below (length cover₀)) turn (R .in-cover) .0)
 
-      fit : Fits off (j ∷ l) s d
-      fit = subst (λ (r : List ℕ). Fits off r s d) turn (R .fits)
+      fit : SumsFit off (j ∷ l) s d
+      fit = subst (λ (r : List ℕ). SumsFit off r s d) turn (R .fits)
 
       pub hang-fits : s + getD off j 0 + bias ≤ 65535
       hang-fits = fit .0

@@ -36,9 +36,9 @@ hung off [] s d = off
 hung off (a ∷ l) s d = hung (set off a (s + getD off a 0 + bias - d)) l (s + getD off a 0) d
 
 -- each of these is a 16-bit number
-abbrev pub Fits : List ℕ → List ℕ → ℕ → ℕ → Type 0
-Fits off [] s d = Unit {0}
-Fits off (a ∷ l) s d = (s + getD off a 0 + bias ≤ 65535) × Fits (set off a (s + getD off a 0 + bias - d)) l (s + getD off a 0) d
+abbrev pub SumsFit : List ℕ → List ℕ → ℕ → ℕ → Type 0
+SumsFit off [] s d = Unit {0}
+SumsFit off (a ∷ l) s d = (s + getD off a 0 + bias ≤ 65535) × SumsFit (set off a (s + getD off a 0 + bias - d)) l (s + getD off a 0) d
 
 -- ---- v put over the run of m posts that begins with p
 -- its last post, and how far that stands from p once it has moved
@@ -91,7 +91,7 @@ pub record Ready (v p m : ℕ) (ys off cover left right : List ℕ) : Type 0 whe
   pub in-cover : Below (length cover) (innerAt right p m)
   pub off-fits : newOff ys off right p m ≤ bias
   pub off-far : newOff ys off right p m ≤ farAt right off p m
-  pub fits : Fits off (innerAt right p m) 1 (newOff ys off right p m)
+  pub fits : SumsFit off (innerAt right p m) 1 (newOff ys off right p m)
 
 -- the arrays after it
 pub record Over (v p m : ℕ) (ys off cover left right ys' off' cover' left' right' : List ℕ) : Type 0 where

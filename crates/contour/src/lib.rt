@@ -4,7 +4,7 @@ ghost use Prim.Native.Nat.{_+_, _-_, _/_, _≤_, _<_};
 ghost use lib.ListN.{length, getD, set};
 ghost use Rattle.block.specs.Layout.{bias};
 ghost use Rattle.contour.specs.Columns.{until, laid, columnOf, settled, ColumnFits, Settles, Rooms, Line};
-ghost use Rattle.contour.specs.Arrays.{path, walk, along, Below, covered, hung, Fits, dropOf, riseOf, runEnd, farAt, newOff, newHeight, Spans};
+ghost use Rattle.contour.specs.Arrays.{path, walk, along, Below, covered, hung, SumsFit, dropOf, riseOf, runEnd, farAt, newOff, newHeight, Spans};
 ghost use Rattle.contour.specs.Arrays.{Ready, Over};
 use block::Block;
 
@@ -64,7 +64,7 @@ fn reach_right(right: &[u16], off: &[u16], p: u16, m: usize) -> Span
 // The m posts from `first` on are covered by v, whose offset is d.
 fn hang(right: &[u16], off: &mut [u16], cover: &mut [u16], first: u16, m: usize, d: u16, v: u16)
     requires { ⌜ Below (length (now right)) (path (now right) first m) × Below (length (now off)) (path (now right) first m)
-        × Below (length (now cover)) (path (now right) first m) × Fits (now off) (path (now right) first m) 1 d × (d ≤ bias) ⌝ }
+        × Below (length (now cover)) (path (now right) first m) × SumsFit (now off) (path (now right) first m) 1 d × (d ≤ bias) ⌝ }
     ensures { λ r. ⌜ (now (off .exit) ≡ hung (now (off .entry)) (path (now (right .entry)) first m) 1 d)
         × (now (cover .exit) ≡ covered (now (cover .entry)) (path (now (right .entry)) first m) v) ⌝ }
 {

@@ -9,7 +9,7 @@ use lib.Seq.{getD-set-same, getD-set-other}
 use Rattle.block.specs.Layout.{bias}
 use Rattle.words.specs.Lists.{In, lastOf, Adj}
 use Rattle.words.proofs.Lists.{Once, adj-tail, last-append}
-use Rattle.contour.specs.Arrays.{path, walk, along, Below, covered, hung, Fits}
+use Rattle.contour.specs.Arrays.{path, walk, along, Below, covered, hung, SumsFit}
 
 pub below-all : (n : ℕ) (l : List ℕ) → ((a : ℕ) → In a l → a < n) → Below n l
 below-all n [] h = tt
@@ -69,7 +69,8 @@ module _ (X : ℕ → ℕ) where
       (sym (getD-set-other off a y w 0 (λ e. n (subst (λ (b : ℕ). In b L) e (adj-tail x y a L i)))))
 
   module _ (base d most : ℕ) (small : most + bias ≤ 65000) where
-    pub fits-list : (off : List ℕ) (a s : ℕ) (L : List ℕ) → Once L → Apart off (a ∷ L) → s + base ≡ X a + 1 → ((y : ℕ) → In y L → X y ≤ most) → Fits off L s d
+    pub fits-list : (off : List ℕ) (a s : ℕ) (L : List ℕ) → Once L → Apart off (a ∷ L) → s + base ≡ X a + 1 → ((y : ℕ) → In y L → X y ≤ most)
+        → SumsFit off L s d
     fits-list off a s [] o h e f = tt
     fits-list off a s (b ∷ L) o h e f =
         let z = h a b (inl (refl, refl)) in

@@ -24,7 +24,7 @@ use Rattle.shift.proofs.Over.{before-run, inside, after-run, ends, by-0, by-1, 
 use Rattle.shift.proofs.Next.{OneStep, step, stepped}
 use Rattle.shift.proofs.Start.{three, start}
 use Rattle.shift.proofs.Every.{three-differ}
-use Rattle.shift.proofs.Sheet.{in-some, in-one, group-placed, drawn-within, Recast, recast}
+use Rattle.shift.proofs.DrawnSays.{in-some, in-one, group-placed, drawn-within, Recast, recast}
 
 pub record Kept (t : Stage) : Type 0 where
   pub C : List ℕ

@@ -2,8 +2,8 @@ pub mod Kept
 pub mod Stepped
 pub mod Along
 pub mod Shown
-pub mod Next
-pub mod Third
-pub mod Read
+pub mod NextPost
+pub mod StageThree
+pub mod ReadColumns
 pub mod Told
 pub mod Recording

@@ -26,10 +26,10 @@ use Rattle.placing.proofs.Steps.{contours, stage-placed}
 use Rattle.order.specs.Opens.{before}
 use Rattle.order.specs.Fitted.{Fitted}
 use Rattle.engine.specs.Shows.{Shows, Columned}
-use Rattle.placing.specs.Sheet.{pairs}
+use Rattle.placing.specs.Pairs.{pairs}
 use Rattle.engine.specs.Recorded.{recordBy}
 use Rattle.order.proofs.Ranked.{placed-by}
-use Rattle.engine.proofs.Read.{covered-later}
+use Rattle.engine.proofs.ReadColumns.{covered-later}
 
 -- ---- neighbours on a contour
 left-first : (x : ℕ) (l : List ℕ) (u : ℕ) → ¬ (In u l) → leftOf (x ∷ l) u ≡ u

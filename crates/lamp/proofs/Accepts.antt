@@ -18,10 +18,9 @@ use Rattle.block.specs.Block.{posts, order, degrees, listsFrom, lists, Framed}
 use Rattle.rings.specs.Rings.{ringRule, triangleRule, outerRule}
 use Rattle.order.specs.Order.{twoPlaced, oneRun}
 use Rattle.order.proofs.Sound.{Boarded, Passes}
-use Rattle.lamp.specs.Lamp.{someName, entryFault, degreeFault, ringFault, triangleFault}
-use Rattle.lamp.specs.Lamp.{entryRow, degreeRow, ringRow, triangleRow, outerRow, fewRow, brokenRow}
-use Rattle.lamp.specs.Lamp.{headerRows, sumRows, orderRows, degreeRows, ringRows, triangleRows, outerRows, positionRows, fittingRows}
-use Rattle.lamp.specs.Lamp.{Row, blockRows, checkRows}
+use Rattle.lamp.specs.Lamp.{someName, entryFault, degreeFault, ringFault, triangleFault, entryRow, degreeRow, ringRow, triangleRow, outerRow}
+use Rattle.lamp.specs.Lamp.{fewRow, brokenRow, headerRows, sumRows, orderRows, degreeRows, ringRows, triangleRows, outerRows, positionRows}
+use Rattle.lamp.specs.Lamp.{fittingRows, Row, blockRows, checkRows}
 use Rattle.lamp.specs.Given.{accepted, checkReply, NoneApplies}
 use Rattle.lamp.proofs.Given.{given-says, accepted-is, none-left, none-right, none-both}
 use Rattle.lamp.proofs.Heads.{framed, framed-none}

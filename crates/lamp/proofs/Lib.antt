@@ -1,7 +1,7 @@
 pub mod Given
-pub mod Steps
+pub mod Tried
 pub mod Heads
 pub mod Loads
-pub mod Boards
+pub mod BoardRows
 pub mod Accepts
 pub mod Retired

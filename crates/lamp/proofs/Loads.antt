@@ -22,7 +22,7 @@ use Rattle.lamp.specs.Loaded.{Loaded, Trimmed, Entered, Checked}
 use Rattle.lamp.specs.declared.Refusal.the-variants.{Order, Degrees}
 use Rattle.lamp.specs.declared.Answer.the-variants.{Refused}
 use Rattle.lamp.proofs.Given.{given-first}
-use Rattle.lamp.proofs.Steps.{found, not-found}
+use Rattle.lamp.proofs.Tried.{found, not-found}
 
 module _ (s : List ℕ) where
   pub order-length : length (order s) ≡ posts s

@@ -16,12 +16,12 @@ use Rattle.block.specs.Block.{posts, order, lists}
 use Rattle.order.specs.Order.{twoPlaced, oneRun, oneLater}
 use Rattle.order.proofs.Growth.{later-follows}
 use Rattle.order.proofs.Sound.{boarded-names, boarded-faces, boarded-outer}
-use Rattle.lamp.specs.Lamp.{Row, blockRows, positionRows, fittingRows, checkRows, stageRow, roomRow, nameRow, sheetRows, postRows}
+use Rattle.lamp.specs.Lamp.{Row, blockRows, positionRows, fittingRows, checkRows, sheetRows, postRows, stageRows, roomRows, nameRows}
 use Rattle.lamp.specs.Given.{refused, given, NoneApplies}
 use Rattle.lamp.specs.Refusals.{numberOf}
 use Rattle.lamp.specs.declared.Refusal.{Refusal}
-use Rattle.lamp.specs.declared.Refusal.the-variants.{Short, Mark, Version, Posts, Length, Sum, Order, Degrees}
-use Rattle.lamp.specs.declared.Refusal.the-variants.{Ring, Triangle, Outer, Few, Broken, Stage, Room, Name}
+use Rattle.lamp.specs.declared.Refusal.the-variants.{Short, Mark, Version, Posts, Length, Sum, Order, Degrees, Ring, Triangle, Outer, Few}
+use Rattle.lamp.specs.declared.Refusal.the-variants.{Broken, Stage, Room, Name}
 use Rattle.lamp.specs.Retired.{retired, retiredRow, paperPositionRows, paperFittingRows, paperRows, NoneIs, Retirement}
 use Rattle.lamp.proofs.Given.{given-end, given-skip, given-stop, given-alike, given-none, given-says, not-both}
 use Rattle.lamp.proofs.Accepts.{lists-count, none-boarded, none-position}
@@ -52,22 +52,26 @@ block-rows : NoneIs retired blockRows
 unfolding blockRows mem
 block-rows = mem-none retired blockRows refl
 
-order-rows : (m k : ℕ) → NoneIs retired (flatMap positionRows (numbers k m))
+fitting-rows : (m k : ℕ) → NoneIs retired (flatMap positionRows (numbers k m))
 unfolding flatMap numbers positionRows
-order-rows zero k = tt
-order-rows (suc m) k = ((λ e. omega arith), ((λ e. omega arith), order-rows m (suc k)))
+fitting-rows zero k = tt
+fitting-rows (suc m) k = ((λ e. omega arith), ((λ e. omega arith), fitting-rows m (suc k)))
 
 check-rows : (s : List ℕ) → NoneIs retired (checkRows s)
 unfolding checkRows
-check-rows s = is-both retired blockRows (fittingRows s) block-rows (order-rows (posts s - 2) 3)
+check-rows s = is-both retired blockRows (fittingRows s) block-rows (fitting-rows (posts s - 2) 3)
 
 sheet-rows : (s : List ℕ) (k room : ℕ) → NoneIs retired (sheetRows s k room)
 unfolding sheetRows
-sheet-rows s k room = is-both retired (checkRows s) (stageRow k ∷ roomRow k room ∷ []) (check-rows s) ((λ e. omega arith), ((λ e. omega arith), tt))
+sheet-rows s k room =
+    is-both retired (checkRows s) (stageRows k ++ roomRows k room) (check-rows s)
+    (is-both retired (stageRows k) (roomRows k room) ((λ e. omega arith), tt) ((λ e. omega arith), tt))
 
 post-rows : (s : List ℕ) (k u : ℕ) → NoneIs retired (postRows s k u)
 unfolding postRows
-post-rows s k u = is-both retired (checkRows s) (stageRow k ∷ nameRow u ∷ []) (check-rows s) ((λ e. omega arith), ((λ e. omega arith), tt))
+post-rows s k u =
+    is-both retired (checkRows s) (stageRows k ++ nameRows u) (check-rows s)
+    (is-both retired (stageRows k) (nameRows u) ((λ e. omega arith), tt) ((λ e. omega arith), tt))
 
 refusals : (r : Refusal) → numberOf r ≢ retired
 refusals Short e = omega arith
@@ -159,14 +163,14 @@ same answer after s =
     ∙ ap (λ (l : List Row). given l s answer) (sym (append-assoc blockRows (fittingRows s) after))
 
 sheet-never : {A : Type 0} (answer : List ℕ → A) (s : List ℕ) (k room place : ℕ)
-    → given (checkRows s ++ stageRow k ∷ roomRow k room ∷ []) s answer ≢ refused retired place
+    → given (checkRows s ++ (stageRows k ++ roomRows k room)) s answer ≢ refused retired place
 unfolding sheetRows
-sheet-never answer s k room place = none-given answer s (checkRows s ++ stageRow k ∷ roomRow k room ∷ []) retired place (sheet-rows s k room)
+sheet-never answer s k room place = none-given answer s (checkRows s ++ (stageRows k ++ roomRows k room)) retired place (sheet-rows s k room)
 
 post-never : {A : Type 0} (answer : List ℕ → A) (s : List ℕ) (k u place : ℕ)
-    → given (checkRows s ++ stageRow k ∷ nameRow u ∷ []) s answer ≢ refused retired place
+    → given (checkRows s ++ (stageRows k ++ nameRows u)) s answer ≢ refused retired place
 unfolding postRows
-post-never answer s k u place = none-given answer s (checkRows s ++ stageRow k ∷ nameRow u ∷ []) retired place (post-rows s k u)
+post-never answer s k u place = none-given answer s (checkRows s ++ (stageRows k ++ nameRows u)) retired place (post-rows s k u)
 
 pub retirement : Retirement
 retirement =
@@ -174,8 +178,8 @@ retirement =
       check = λ answer s place e.
           none-given answer s (checkRows s ++ []) retired place (is-both retired (checkRows s) [] (check-rows s) tt)
           (sym (same answer [] s) ∙ ap (λ (l : List Row). given l s answer) (append-nil (paperRows s)) ∙ e);
-      sheet = λ answer s k room place e. sheet-never answer s k room place (sym (same answer (stageRow k ∷ roomRow k room ∷ []) s) ∙ e);
-      post = λ answer s k u place e. post-never answer s k u place (sym (same answer (stageRow k ∷ nameRow u ∷ []) s) ∙ e);
+      sheet = λ answer s k room place e. sheet-never answer s k room place (sym (same answer (stageRows k ++ roomRows k room) s) ∙ e);
+      post = λ answer s k u place e. post-never answer s k u place (sym (same answer (stageRows k ++ nameRows u) s) ∙ e);
       same = same;
       sheet-rows = sheet-rows;
       post-rows = post-rows;

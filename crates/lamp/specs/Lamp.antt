@@ -13,8 +13,8 @@ use Rattle.rings.specs.Rings.{ringRule, triangleRule, outerRule}
 use Rattle.order.specs.Order.{twoPlaced, oneRun}
 use Rattle.lamp.specs.Refusals.{numberOf, placeOf}
 use Rattle.lamp.specs.declared.Refusal.{Refusal}
-use Rattle.lamp.specs.declared.Refusal.the-variants.{Short, Mark, Version, Posts, Length, Sum, Order, Degrees}
-use Rattle.lamp.specs.declared.Refusal.the-variants.{Ring, Triangle, Outer, Few, Broken, Stage, Room, Name}
+use Rattle.lamp.specs.declared.Refusal.the-variants.{Short, Mark, Version, Posts, Length, Sum, Order, Degrees, Ring, Triangle, Outer, Few}
+use Rattle.lamp.specs.declared.Refusal.the-variants.{Broken, Stage, Room, Name}
 
 pub record Row : Type 0 where
   pub number : ℕ
@@ -142,6 +142,16 @@ positionRows k = fewRow k ∷ brokenRow k ∷ []
 abbrev pub fittingRows : List ℕ → List Row
 fittingRows s = flatMap positionRows (numbers 3 (posts s - 2))
 
+-- for sheet and post
+abbrev pub stageRows : ℕ → List Row
+stageRows k = stageRow k ∷ []
+
+abbrev pub roomRows : ℕ → ℕ → List Row
+roomRows k room = roomRow k room ∷ []
+
+abbrev pub nameRows : ℕ → List Row
+nameRows u = nameRow u ∷ []
+
 -- ---- the services' tables
 
 -- what check asks before the rule per position
@@ -152,7 +162,7 @@ unfoldable pub checkRows : List ℕ → List Row
 checkRows s = blockRows ++ fittingRows s
 
 unfoldable pub sheetRows : List ℕ → ℕ → ℕ → List Row
-sheetRows s k room = checkRows s ++ stageRow k ∷ roomRow k room ∷ []
+sheetRows s k room = checkRows s ++ (stageRows k ++ roomRows k room)
 
 unfoldable pub postRows : List ℕ → ℕ → ℕ → List Row
-postRows s k u = checkRows s ++ stageRow k ∷ nameRow u ∷ []
+postRows s k u = checkRows s ++ (stageRows k ++ nameRows u)

@@ -2,8 +2,8 @@
 use Prim.Native.Nat.{ℕ}
 use Rattle.lamp.specs.declared.Told.{Told}
 use Rattle.lamp.specs.declared.Refusal.{Refusal}
-use Rattle.lamp.specs.declared.Refusal.the-variants.{Short, Mark, Version, Posts, Length, Sum, Order, Degrees}
-use Rattle.lamp.specs.declared.Refusal.the-variants.{Ring, Triangle, Outer, Few, Broken, Stage, Room, Name}
+use Rattle.lamp.specs.declared.Refusal.the-variants.{Short, Mark, Version, Posts, Length, Sum, Order, Degrees, Ring, Triangle, Outer, Few}
+use Rattle.lamp.specs.declared.Refusal.the-variants.{Broken, Stage, Room, Name}
 
 abbrev pub tell : ℕ → ℕ → Told
 tell number place = record { number = number; place = place }

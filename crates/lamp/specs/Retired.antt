@@ -9,7 +9,7 @@ use Rattle.words.specs.First.{numbers}
 use Rattle.words.specs.Positions.{post, later}
 use Rattle.block.specs.Block.{posts, order, lists}
 use Rattle.order.specs.Order.{oneLater}
-use Rattle.lamp.specs.Lamp.{Row, blockRows, positionRows, checkRows, stageRow, roomRow, nameRow, sheetRows, postRows}
+use Rattle.lamp.specs.Lamp.{Row, blockRows, positionRows, checkRows, stageRows, roomRows, nameRows, sheetRows, postRows}
 use Rattle.lamp.specs.Given.{refused, given}
 use Rattle.lamp.specs.Refusals.{numberOf}
 use Rattle.lamp.specs.declared.Refusal.{Refusal}
@@ -41,9 +41,9 @@ pub record Retirement : Type 1 where
   -- No list of bytes is answered 14 by the paper's table: not by check, nor by sheet and post, whose rows follow, whatever they answer otherwise.
   pub check : {A : Type 0} (answer : List ℕ → A) (s : List ℕ) (place : ℕ) → given (paperRows s) s answer ≢ refused retired place
   pub sheet : {A : Type 0} (answer : List ℕ → A) (s : List ℕ) (k room place : ℕ)
-      → given (paperRows s ++ stageRow k ∷ roomRow k room ∷ []) s answer ≢ refused retired place
+      → given (paperRows s ++ (stageRows k ++ roomRows k room)) s answer ≢ refused retired place
   pub post : {A : Type 0} (answer : List ℕ → A) (s : List ℕ) (k u place : ℕ)
-      → given (paperRows s ++ stageRow k ∷ nameRow u ∷ []) s answer ≢ refused retired place
+      → given (paperRows s ++ (stageRows k ++ nameRows u)) s answer ≢ refused retired place
   -- Its removal changes no reply, whatever rows follow.
   pub same : {A : Type 0} (answer : List ℕ → A) (after : List Row) (s : List ℕ)
       → given (paperRows s ++ after) s answer ≡ given (checkRows s ++ after) s answer

@@ -11,4 +11,4 @@ pub mod Ranked
 pub mod Rule
 pub mod Opens
 pub mod Finding
-pub mod Next
+pub mod NextRing

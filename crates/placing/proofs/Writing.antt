@@ -6,7 +6,7 @@ use native.Mathlib.Omega.{arith}
 use native.Mathlib.Numerals.{add-one}
 use lib.ListN.{length, getD, set, take, drop, length-set, length-append}
 use lib.Seq.{take-suc, drop-cons, set-at, length-take-le}
-use Rattle.placing.specs.Sheet.{pairs}
+use Rattle.placing.specs.Pairs.{pairs}
 
 module _ (xs ys : List ℕ) where
   pairs-length : (l : List ℕ) → length (pairs xs ys l) ≡ 2 * length l

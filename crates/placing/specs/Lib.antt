@@ -1,3 +1,3 @@
 pub mod Stages
 pub mod Records
-pub mod Sheet
+pub mod Pairs

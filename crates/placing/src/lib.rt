@@ -4,7 +4,7 @@ ghost use mathlib.Core.List.{_++_};
 ghost use Prim.Native.Nat.{ℕ, _*_, _≤_, _<_};
 ghost use lib.ListN.{length, getD, take, drop};
 ghost use Rattle.block.specs.Layout.{limit};
-ghost use Rattle.placing.specs.Sheet.{pairs};
+ghost use Rattle.placing.specs.Pairs.{pairs};
 
 // How a post stands at a stage: not placed yet; on the contour, between its left and its right neighbour there; or covered, by the post whose
 // placing covered it. Posts are told by name.

@@ -20,7 +20,7 @@ use Rattle.words.proofs.Chains.{Chain}
 use Rattle.drawing.proofs.Build.{Built, Good}
 use Rattle.shift.proofs.Drawn.{placesOf, Drawn}
 use Rattle.shift.proofs.Next.{OneStep}
-use Rattle.shift.proofs.Sheet.{turns, drawn-apart, low, drawn-within, grid, rising, even, contour-placed, in-some, in-one, group-placed}
+use Rattle.shift.proofs.DrawnSays.{turns, drawn-apart, low, drawn-within, grid, rising, even, contour-placed, in-some, in-one, group-placed}
 use Rattle.shift.proofs.Tied.{Tied, tied-third, tied-next, one-step, left-moves, inner-moves, right-moves}
 
 -- v1, v2 and v3 are three posts

@@ -8,7 +8,7 @@ pub mod Over
 pub mod Next
 pub mod Start
 pub mod Tri
-pub mod Sheet
+pub mod DrawnSays
 pub mod Tied
 pub mod Every
 pub mod Mirror

@@ -22,7 +22,7 @@ use Rattle.drawing.specs.Areas.{PositiveArea}
 use Rattle.drawing.proofs.Build.{Build}
 use Rattle.shift.proofs.Drawn.{placesOf}
 use Rattle.shift.proofs.Tri.{Tri, tri-turn}
-use Rattle.shift.proofs.Sheet.{turns}
+use Rattle.shift.proofs.DrawnSays.{turns}
 use Rattle.shift.proofs.Tied.{Tied, tied-third, third-tri, tied-next, tri-old, tri-new}
 use Rattle.shift.proofs.Every.{three-differ, placed-at}
 

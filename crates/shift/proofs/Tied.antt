@@ -20,7 +20,7 @@ use Rattle.shift.proofs.Over.{before-run, after-run, inside, by-0, by-1
 use Rattle.shift.proofs.Next.{OneStep, step, stepped}
 use Rattle.shift.proofs.Start.{three, start, first-post, second-post}
 use Rattle.shift.proofs.Tri.{Tri}
-use Rattle.shift.proofs.Sheet.{Recast, recast}
+use Rattle.shift.proofs.DrawnSays.{Recast, recast}
 
 -- a stage drawn over its contour C, and each wire of the rings between its posts is one of the drawing
 pub record Tied (G : List (List ℕ)) (t : Stage) : Type 0 where

@@ -1,7 +1,7 @@
 -- What sheet and post reply, by what check answered and what the rows after it gave; and the buffer after a sheet call.
 use Prim.Native.Nat.{ℕ, _+_, _*_, _≤_, _<_}
 use mathlib.Core.Path.{_≡_, refl, sym, ap, _∙_, subst, subst⁻¹}
-use mathlib.Core.List.{List, [], _∷_, _++_}
+use mathlib.Core.List.{List, [], _++_}
 use native.Mathlib.Omega.{arith}
 use lib.Dec.{ltb}
 use lib.ListN.{length, take, drop}
@@ -19,7 +19,7 @@ use Rattle.placing.specs.Stages.{Stage, stage}
 use Rattle.placing.specs.Records.{recordOf, entriesOf}
 use Rattle.placing.specs.declared.Record.{Record}
 use Rattle.lamp.specs.Refusals.{numberOf, placeOf}
-use Rattle.lamp.specs.Lamp.{Row, checkRows, stageRow, roomRow, nameRow, sheetRows, postRows}
+use Rattle.lamp.specs.Lamp.{Row, checkRows, stageRow, roomRow, nameRow, sheetRows, postRows, stageRows, roomRows, nameRows}
 use Rattle.lamp.specs.Given.{Reply, accepted, replyOf, given, checkReply, NoneApplies}
 use Rattle.lamp.specs.Loaded.{Trimmed, Checked}
 use Rattle.lamp.specs.declared.Refusal.{Refusal}
@@ -27,7 +27,7 @@ use Rattle.lamp.specs.declared.Refusal.the-variants.{Room, Name}
 use Rattle.lamp.specs.declared.Answer.{Answer}
 use Rattle.lamp.specs.declared.Answer.the-variants.{Refused}
 use Rattle.lamp.proofs.Given.{given-first, given-past, given-none, refused-any, none-both}
-use Rattle.lamp.proofs.Steps.{stops}
+use Rattle.lamp.proofs.Tried.{stops}
 use Rattle.lamp.proofs.Loads.{trimmed}
 use Rattle.lamp.proofs.Accepts.{none-passes, accepted-none}
 use Rattle.unit.specs.declared.Ask.{Ask}
@@ -38,26 +38,26 @@ use Rattle.unit.specs.Asked.{furtherRows, Within, Tells, Serves}
 
 module _ (s : List ℕ) (k : ℕ) where
   module _ (rest : List Row) where
-    pub stage-low : k < 3 → replyOf (Refused Refusal.Stage) ≡ given (stageRow k ∷ rest) s posts
+    pub stage-low : k < 3 → replyOf (Refused Refusal.Stage) ≡ given (stageRows k ++ rest) s posts
     stage-low h = sym (given-first s posts [] (stageRow k) rest tt (rw (lt-ltb k 3 h) refl))
 
-    pub stage-high : 3 ≤ k → posts s < k → replyOf (Refused Refusal.Stage) ≡ given (stageRow k ∷ rest) s posts
+    pub stage-high : 3 ≤ k → posts s < k → replyOf (Refused Refusal.Stage) ≡ given (stageRows k ++ rest) s posts
     stage-high least h = sym (given-first s posts [] (stageRow k) rest tt (rw (le-ltb k 3 least, lt-ltb (posts s) k h) refl))
 
-    pub stage-past : 3 ≤ k → k ≤ posts s → given rest s posts ≡ given (stageRow k ∷ rest) s posts
+    pub stage-past : 3 ≤ k → k ≤ posts s → given rest s posts ≡ given (stageRows k ++ rest) s posts
     stage-past least most =
-        sym (given-past s posts (stageRow k ∷ []) rest (rw (le-ltb k 3 least, le-ltb (posts s) k most) refl, tt))
+        sym (given-past s posts (stageRows k) rest (rw (le-ltb k 3 least, le-ltb (posts s) k most) refl, tt))
 
-  pub no-room : (room : ℕ) → room < 2 * k → replyOf (Refused Room) ≡ given (roomRow k room ∷ []) s posts
+  pub no-room : (room : ℕ) → room < 2 * k → replyOf (Refused Room) ≡ given (roomRows k room) s posts
   no-room room h = sym (given-first s posts [] (roomRow k room) [] tt (lt-ltb room (2 * k) h))
 
-  pub room-passes : (room : ℕ) → 2 * k ≤ room → NoneApplies (roomRow k room ∷ []) s
+  pub room-passes : (room : ℕ) → 2 * k ≤ room → NoneApplies (roomRows k room) s
   room-passes room h = (le-ltb room (2 * k) h, tt)
 
-pub no-name : (s : List ℕ) (u : ℕ) → posts s ≤ u → replyOf (Refused Name) ≡ given (nameRow u ∷ []) s posts
+pub no-name : (s : List ℕ) (u : ℕ) → posts s ≤ u → replyOf (Refused Name) ≡ given (nameRows u) s posts
 no-name s u h = sym (given-first s posts [] (nameRow u) [] tt (le-leb (posts s) u h))
 
-pub name-passes : (s : List ℕ) (u : ℕ) → u < posts s → NoneApplies (nameRow u ∷ []) s
+pub name-passes : (s : List ℕ) (u : ℕ) → u < posts s → NoneApplies (nameRows u) s
 name-passes s u h = (lt-leb (posts s) u h, tt)
 
 -- where none applies, the stage and what is asked of it fit

@@ -15,7 +15,7 @@ use Rattle.unit.specs.Replies.{stageAt, sheetReply, bufferFor, bufferAft
 use Rattle.unit.specs.Demands.{Services, thePaper, Accepted, Refused, Demand1, Sound, Demand2, Demand3}
 use Rattle.lamp.proofs.Given.{given-none, given-fixed, fixed-one, accepted-is, not-both}
 use Rattle.lamp.proofs.Accepts.{lists-count, none-passes, passes-none, accepted-none, accepted-posts, accepted-framed}
-use Rattle.unit.proofs.Third.{demand-3}
+use Rattle.unit.proofs.DemandThree.{demand-3}
 
 -- a reply is an acceptance or a refusal
 by-reply : {A C : Type 0} (r : Reply A) → (Accepted r → C) → (Refused r → C) → C

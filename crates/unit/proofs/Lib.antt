@@ -1,5 +1,5 @@
 pub mod Starred
-pub mod Third
+pub mod DemandThree
 pub mod Demanded
 pub mod Calls
 pub mod Written

@@ -11,7 +11,7 @@ use Rattle.lamp.proofs.Accepts.{lists-count, none-passes, accepted-none, accept
 use Rattle.unit.specs.Replies.{stageAt, sheetReply}
 use Rattle.unit.specs.Demands.{thePaper, Accepted, places, onSheet}
 use Rattle.unit.specs.Mirror.{Inner, NoMirror}
-use Rattle.unit.proofs.Third.{Passing, vn, plane, fits, many}
+use Rattle.unit.proofs.DemandThree.{Passing, vn, plane, fits, many}
 use Rattle.unit.proofs.Written.{sheet-passes, sheet-least, sheet-most, sheet-x, sheet-y}
 
 module _ (s : List ℕ) (S : Passing s) (k : ℕ) (h : 3 ≤ k) (i : k ≤ posts s) where

@@ -21,14 +21,14 @@ use Rattle.placing.specs.Stages.{stage}
 use Rattle.placing.specs.Records.{entriesOf}
 use Rattle.placing.proofs.Steps.{stage-placed}
 use Rattle.drawing.specs.Meeting.{Places, Point, On, At, End, OnGrid, NoneMeet}
-use Rattle.lamp.specs.Lamp.{checkRows, stageRow, roomRow, sheetRows}
+use Rattle.lamp.specs.Lamp.{checkRows, sheetRows, stageRows, roomRows}
 use Rattle.lamp.specs.Given.{NoneApplies}
 use Rattle.unit.specs.Replies.{stageAt, sheetReply}
 use Rattle.unit.specs.Demands.{thePaper, Accepted, places, Placed, Moves, positionOf, onSheet, Safe, SafeSheets}
 use Rattle.lamp.proofs.Given.{given-says, none-left, none-right}
 use Rattle.lamp.proofs.Loads.{order-length}
 use Rattle.lamp.proofs.Accepts.{lists-count, none-passes}
-use Rattle.unit.proofs.Third.{Passing, on-grid, no-short, moves}
+use Rattle.unit.proofs.DemandThree.{Passing, on-grid, no-short, moves}
 use Rattle.unit.proofs.Demanded.{second-demand}
 
 -- entries two by two
@@ -89,15 +89,15 @@ module _ (p q : Places) (Post : ℕ → Type 0) (same-x : (u : ℕ) → Post u �
       end-post z (inr q) = rw q (ends a b w .1)
 
 module _ (s : List ℕ) (k : ℕ) (b : List ℕ) (a : Accepted (sheetReply s k b)) where
-  none : NoneApplies (checkRows s ++ stageRow k ∷ roomRow k (length b) ∷ []) s
+  none : NoneApplies (checkRows s ++ (stageRows k ++ roomRows k (length b))) s
   unfolding sheetReply sheetRows
   none = given-says s (λ z. 2 * k) (sheetRows s k (length b)) (a .0) (a .1)
 
   pub sheet-passes : Passing s
-  sheet-passes = record { passes = none-passes s (none-left (checkRows s) (stageRow k ∷ roomRow k (length b) ∷ []) s none); all = sym (lists-count s) }
+  sheet-passes = record { passes = none-passes s (none-left (checkRows s) (stageRows k ++ roomRows k (length b)) s none); all = sym (lists-count s) }
 
   inside : (ltb k 3 ≡ false) × (ltb (posts s) k ≡ false)
-  inside = neither (ltb k 3) (ltb (posts s) k) (none-right (checkRows s) (stageRow k ∷ roomRow k (length b) ∷ []) s none .0)
+  inside = neither (ltb k 3) (ltb (posts s) k) (none-right (checkRows s) (stageRows k ++ roomRows k (length b)) s none .0)
 
   pub sheet-least : 3 ≤ k
   sheet-least = ltb-false k 3 (inside .0)

@@ -1,13 +1,13 @@
 -- What sheet and post share: both ask for stage k of a block, and differ in one row and in what is told of the stage. Only inner contracts cite it.
 use Prim.Native.Nat.{ℕ, _*_, _≤_, _<_}
 use mathlib.Core.Path.{_≡_}
-use mathlib.Core.List.{List, [], _∷_, _++_}
+use mathlib.Core.List.{List, _++_}
 use lib.ListN.{drop}
 use Rattle.placing.specs.Stages.{Stage}
 use Rattle.placing.specs.Records.{recordOf, entriesOf}
 use Rattle.placing.specs.declared.Record.{Record}
 use Rattle.lamp.specs.Refusals.{numberOf, placeOf}
-use Rattle.lamp.specs.Lamp.{Row, stageRow, roomRow, nameRow}
+use Rattle.lamp.specs.Lamp.{Row, stageRows, roomRows, nameRows}
 use Rattle.lamp.specs.Given.{Reply, accepted, refused, replyOf}
 use Rattle.lamp.specs.declared.Answer.{Answer}
 use Rattle.unit.specs.declared.Ask.{Ask}
@@ -15,12 +15,12 @@ use Rattle.unit.specs.declared.Served.{Served}
 use Rattle.unit.specs.Replies.{sheetReply, bufferAfter, postReply}
 
 -- the rows that follow check's, for stage k and a buffer with room for so many entries
-abbrev pub ownRow : Ask → ℕ → ℕ → Row
-ownRow Ask.Sheet k room = roomRow k room
-ownRow (Ask.Post u) k room = nameRow u
+abbrev pub ownRows : Ask → ℕ → ℕ → List Row
+ownRows Ask.Sheet k room = roomRows k room
+ownRows (Ask.Post u) k room = nameRows u
 
 abbrev pub furtherRows : Ask → ℕ → ℕ → List Row
-furtherRows ask k room = stageRow k ∷ ownRow ask k room ∷ []
+furtherRows ask k room = stageRows k ++ ownRows ask k room
 
 -- what passing them leaves to the drawing, for n posts
 abbrev pub Within : Ask → ℕ → ℕ → ℕ → Type 0

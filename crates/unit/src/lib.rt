@@ -1,6 +1,5 @@
 // The unit: its three services. specs/ has their replies and the three demands; the refusals and the table are lamp's.
 ghost use mathlib.Core.Path.{_≡_};
-ghost use mathlib.Core.List.{[], _∷_};
 ghost use Prim.Native.Nat.{_+_, _≤_};
 ghost use lib.ListN.{length, take};
 ghost use Rattle.block.specs.Layout.{limit, entries};
@@ -8,7 +7,7 @@ ghost use Rattle.block.specs.Block.{posts, Headed};
 ghost use Rattle.rings.specs.Held.{held};
 ghost use Rattle.placing.specs.Stages.{stage};
 ghost use Rattle.order.specs.Fitted.{Fitted};
-ghost use Rattle.lamp.specs.Lamp.{roomRow, nameRow};
+ghost use Rattle.lamp.specs.Lamp.{roomRows, nameRows};
 ghost use Rattle.lamp.specs.Given.{accepted, replyOf, given, checkReply};
 ghost use Rattle.lamp.specs.Loaded.{Wide, Checked};
 ghost use Rattle.unit.specs.Replies.{sheetReply, bufferAfter, postReply, postedOf};
@@ -75,7 +74,7 @@ fn no_record() -> Record {
 // The room in a buffer.
 fn room_row(s: &[u8], n: usize, k: usize, room: usize) -> Answer
     requires { ⌜ Headed (now s) n × (k ≤ n) ⌝ }
-    ensures { λ r. ⌜ replyOf r ≡ given (roomRow k room ∷ []) (now (s .entry)) posts ⌝ }
+    ensures { λ r. ⌜ replyOf r ≡ given (roomRows k room) (now (s .entry)) posts ⌝ }
 {
     if room < 2 * k {
         return Answer::Refused(Refusal::Room);
@@ -86,7 +85,7 @@ fn room_row(s: &[u8], n: usize, k: usize, room: usize) -> Answer
 // The name of a post.
 fn name_row(s: &[u8], n: usize, u: usize) -> Answer
     requires { ⌜ Headed (now s) n ⌝ }
-    ensures { λ r. ⌜ replyOf r ≡ given (nameRow u ∷ []) (now (s .entry)) posts ⌝ }
+    ensures { λ r. ⌜ replyOf r ≡ given (nameRows u) (now (s .entry)) posts ⌝ }
 {
     if n <= u {
         return Answer::Refused(Refusal::Name);

@@ -2,7 +2,7 @@ use borrow.Author.Needs.{needs}
 use Rattle.engine.proofs.columns.Statement.{statement}
 use Rattle.engine.proofs.columns.Tie as tie
 use mathlib.Core.Path.{refl, _∙_}
-use Rattle.engine.proofs.Read.{laid-ready}
+use Rattle.engine.proofs.ReadColumns.{laid-ready}
 
 shared-slice-read-spread : tie.Need-shared-slice-read-spread
 shared-slice-read-spread c = search needs

@@ -1,7 +1,7 @@
 use borrow.Author.Needs.{needs}
 use Rattle.engine.proofs.draw.Statement.{statement}
 use Rattle.engine.proofs.draw.Tie as tie
-use Rattle.engine.proofs.Read.{readable, drawn}
+use Rattle.engine.proofs.ReadColumns.{readable, drawn}
 
 reach-requires : tie.Need-reach-requires
 reach-requires c κs = search needs

@@ -2,7 +2,7 @@ use borrow.Author.Needs.{needs}
 use Rattle.engine.proofs.place_next.Statement.{statement}
 use Rattle.engine.proofs.place_next.Tie as tie
 use mathlib.Core.Path.{refl}
-use Rattle.engine.proofs.Next.{next-ready, next-holds}
+use Rattle.engine.proofs.NextPost.{next-ready, next-holds}
 
 next-run-requires : tie.Need-next-run-requires
 next-run-requires c κs = search needs

@@ -5,7 +5,7 @@ use Prim.Native.Nat.{ℕ, _≤_, _-_}
 use mathlib.Core.Path.{_≡_, subst}
 use lib.ListN.{length}
 use Rattle.engine.specs.Shows.{Holds}
-use Rattle.engine.proofs.Third.{corners-ready, third-holds}
+use Rattle.engine.proofs.StageThree.{corners-ready, third-holds}
 use borrow.Author.Needs.{needs}
 
 abbrev Inv-loop : tie.InvT-loop

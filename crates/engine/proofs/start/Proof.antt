@@ -1,7 +1,7 @@
 use borrow.Author.Needs.{needs}
 use Rattle.engine.proofs.start.Statement.{statement}
 use Rattle.engine.proofs.start.Tie as tie
-use Rattle.engine.proofs.Third.{start-shows}
+use Rattle.engine.proofs.StageThree.{start-shows}
 
 put-corners-requires : tie.Need-put-corners-requires
 put-corners-requires c κs = search needs

@@ -8,7 +8,7 @@ use Rattle.lamp.specs.Given.{accepted, replyOf}
 use Rattle.lamp.specs.Lamp.{orderRows, degreeRows}
 use Rattle.lamp.specs.Loaded.{loadRows, loadedRows}
 use Rattle.lamp.proofs.Given.{none-left, accepted-is}
-use Rattle.lamp.proofs.Steps.{none-applied, stops, goes-on, never}
+use Rattle.lamp.proofs.Tried.{none-applied, stops, goes-on, never}
 use Rattle.lamp.proofs.Loads.{entered, checked}
 
 load-requires : tie.Need-load-requires

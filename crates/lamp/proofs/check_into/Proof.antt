@@ -5,9 +5,9 @@ use mathlib.Core.Path.{_∙_}
 use mathlib.Core.List.{_++_}
 use Rattle.lamp.specs.Lamp.{headerRows, sumRows}
 use Rattle.lamp.specs.Loaded.{loadRows, loadedRows}
-use Rattle.lamp.proofs.Steps.{counts, none-applied, stops, goes-on, never}
+use Rattle.lamp.proofs.Tried.{counts, none-applied, stops, goes-on, never}
 use Rattle.lamp.proofs.Heads.{framed-headed}
-use Rattle.lamp.proofs.Boards.{whole-table}
+use Rattle.lamp.proofs.BoardRows.{whole-table}
 
 header-requires : tie.Need-header-requires
 header-requires c κs = search needs

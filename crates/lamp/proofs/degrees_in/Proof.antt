@@ -7,7 +7,7 @@ use Rattle.words.specs.Numbers.{sumOf}
 use Rattle.block.specs.Layout.{entries}
 use Rattle.rings.proofs.Read.{degrees-count}
 use Rattle.lamp.specs.Lamp.{degreeRows}
-use Rattle.lamp.proofs.Steps.{none-stops}
+use Rattle.lamp.proofs.Tried.{none-stops}
 use Rattle.lamp.proofs.Loads.{degree-bad, total-bad, degrees-pass}
 
 read-degrees-requires : tie.Need-read-degrees-requires

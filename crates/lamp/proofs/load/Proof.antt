@@ -7,7 +7,7 @@ use Rattle.words.specs.Numbers.{sumOf}
 use Rattle.block.specs.Layout.{entries}
 use Rattle.rings.proofs.Read.{degrees-count}
 use Rattle.lamp.specs.Lamp.{orderRows, degreeRows}
-use Rattle.lamp.proofs.Steps.{none-applied, stops, goes-on, never}
+use Rattle.lamp.proofs.Tried.{none-applied, stops, goes-on, never}
 use Rattle.lamp.proofs.Loads.{totalled}
 
 order-in-requires : tie.Need-order-in-requires

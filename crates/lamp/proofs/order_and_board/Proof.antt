@@ -11,9 +11,9 @@ use Rattle.lamp.specs.Lamp.{ringRows, triangleRows, outerRows}
 use Rattle.lamp.specs.Given.{given}
 use Rattle.lamp.specs.Loaded.{boardRows, rowsFrom}
 use Rattle.lamp.proofs.Given.{none-left}
-use Rattle.lamp.proofs.Steps.{none-applied, stops, goes-on, never}
+use Rattle.lamp.proofs.Tried.{none-applied, stops, goes-on, never}
 use Rattle.lamp.proofs.Loads.{entered-in}
-use Rattle.lamp.proofs.Boards.{ringed}
+use Rattle.lamp.proofs.BoardRows.{ringed}
 
 board-requires : tie.Need-board-requires
 board-requires c κs = search needs

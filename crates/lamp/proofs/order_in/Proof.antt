@@ -2,7 +2,7 @@ use borrow.Author.Needs.{needs}
 use Rattle.lamp.proofs.order_in.Statement.{statement}
 use Rattle.lamp.proofs.order_in.Tie as tie
 use Rattle.lamp.specs.Lamp.{orderRows}
-use Rattle.lamp.proofs.Steps.{none-stops}
+use Rattle.lamp.proofs.Tried.{none-stops}
 use Rattle.lamp.proofs.Loads.{entry-bad, entries-pass}
 
 read-order-requires : tie.Need-read-order-requires

@@ -2,7 +2,7 @@ use borrow.Author.Needs.{needs}
 use Rattle.order.proofs.next_run.Statement.{statement}
 use Rattle.order.proofs.next_run.Tie as tie
 use native.Mathlib.Omega.{arith}
-use Rattle.order.proofs.Next.{in-at, in-ents, some-entry, named, in-rank, run-first-is, run-many-is}
+use Rattle.order.proofs.NextRing.{in-at, in-ents, some-entry, named, in-rank, run-first-is, run-many-is}
 
 mul-number : tie.Need-mul-number
 mul-number c = search needs

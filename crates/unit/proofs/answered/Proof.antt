@@ -8,7 +8,7 @@ use lib.ListN.{length}
 use Rattle.block.specs.Layout.{limit}
 use lib.Seq.{length-take-le}
 use Rattle.unit.specs.Asked.{furtherRows}
-use Rattle.lamp.proofs.Steps.{none-applied}
+use Rattle.lamp.proofs.Tried.{none-applied}
 use Rattle.unit.proofs.Calls.{asked-stage, within, row-refuses, serves, length-is, many-is, to-engine, stage-is}
 
 further-requires : tie.Need-further-requires

@@ -5,7 +5,7 @@ use native.Mathlib.Omega.{arith}
 use mathlib.Core.Path.{_≡_, _∙_, subst⁻¹}
 use mathlib.Core.List.{[], _∷_}
 use Rattle.block.specs.Block.{posts}
-use Rattle.lamp.specs.Lamp.{roomRow, nameRow}
+use Rattle.lamp.specs.Lamp.{nameRow, roomRows}
 use Rattle.lamp.specs.Given.{replyOf, given}
 use Rattle.unit.specs.declared.Ask.{Ask}
 use Rattle.unit.specs.Asked.{furtherRows}
@@ -40,7 +40,7 @@ returns-3 c =
     let s = entry .args .s .now in
     let k = entry .args .k in
     let room = entry .args .room in
-    let past = stage-past s k (roomRow k room ∷ []) (omega arith) (omega (arith, entry .pre .is)) in
+    let past = stage-past s k (roomRows k room) (omega arith) (omega (arith, entry .pre .is)) in
     subst⁻¹ (λ (a : Ask). replyOf (c .room-row .result) ≡ given (furtherRows a k room) s posts) (asked .enum-told .given .1) (c .room-row .ensures ∙ past)
 
 returns-4 : tie.Need-returns-4

@@ -2,9 +2,8 @@ use borrow.Author.Needs.{needs}
 use Rattle.unit.proofs.name_row.Statement.{statement}
 use Rattle.unit.proofs.name_row.Tie as tie
 use native.Mathlib.Omega.{arith}
-use mathlib.Core.List.{[], _∷_}
-use Rattle.lamp.specs.Lamp.{nameRow}
-use Rattle.lamp.proofs.Steps.{none-stops}
+use Rattle.lamp.specs.Lamp.{nameRows}
+use Rattle.lamp.proofs.Tried.{none-stops}
 use Rattle.unit.proofs.Calls.{no-name, name-passes}
 
 returns : tie.Need-returns
@@ -19,7 +18,7 @@ returns-2 : tie.Need-returns-2
 returns-2 c =
     let entry = c .before in
     let u = entry .args .u in
-    none-stops _ (nameRow u ∷ []) _ (entry .pre .is) (name-passes (entry .args .s .now) u (omega (arith, entry .pre .is)))
+    none-stops _ (nameRows u) _ (entry .pre .is) (name-passes (entry .args .s .now) u (omega (arith, entry .pre .is)))
 
 pub name-row-spec : {M : Type 1} → statement M
 name-row-spec = tie.close (tie.spec returns cast-t6 returns-2)

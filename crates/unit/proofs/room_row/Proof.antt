@@ -2,9 +2,8 @@ use borrow.Author.Needs.{needs}
 use Rattle.unit.proofs.room_row.Statement.{statement}
 use Rattle.unit.proofs.room_row.Tie as tie
 use native.Mathlib.Omega.{arith}
-use mathlib.Core.List.{[], _∷_}
-use Rattle.lamp.specs.Lamp.{roomRow}
-use Rattle.lamp.proofs.Steps.{none-stops}
+use Rattle.lamp.specs.Lamp.{roomRows}
+use Rattle.lamp.proofs.Tried.{none-stops}
 use Rattle.unit.proofs.Calls.{no-room, room-passes}
 
 mul-if1 : tie.Need-mul-if1
@@ -23,7 +22,7 @@ returns-2 c =
     let entry = c .before in
     let k = entry .args .k in
     let room = entry .args .room in
-    none-stops _ (roomRow k room ∷ []) _ (entry .pre .0 .is) (room-passes (entry .args .s .now) k room (omega arith))
+    none-stops _ (roomRows k room) _ (entry .pre .0 .is) (room-passes (entry .args .s .now) k room (omega arith))
 
 pub room-row-spec : {M : Type 1} → statement M
 room-row-spec = tie.close (tie.spec mul-if1 returns cast-t8 returns-2)

@@ -4,7 +4,7 @@ use Rattle.lamp.proofs.frame.header.Tie as tie
 use mathlib.Core.Path.{_∙_}
 use mathlib.Core.List.{_++_}
 use Rattle.lamp.specs.Lamp.{openingRows, sizeRows, sumRows}
-use Rattle.lamp.proofs.Steps.{counts, none-applied, stops, goes-on}
+use Rattle.lamp.proofs.Tried.{counts, none-applied, stops, goes-on}
 use Rattle.lamp.proofs.Heads.{size-headed}
 
 opening-requires : tie.Need-opening-requires

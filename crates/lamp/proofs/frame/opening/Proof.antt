@@ -4,7 +4,7 @@ use Rattle.lamp.proofs.frame.opening.Tie as tie
 use mathlib.Core.Path.{sym, _∙_}
 use borrow.Author.Tests.{not-true, not-false}
 use Rattle.lamp.specs.Lamp.{openingRows}
-use Rattle.lamp.proofs.Steps.{none-stops}
+use Rattle.lamp.proofs.Tried.{none-stops}
 use Rattle.lamp.proofs.Heads.{short, no-mark, other-version, opening-passes}
 
 returns : tie.Need-returns

@@ -5,7 +5,7 @@ use native.Mathlib.Omega.{arith}
 use mathlib.Core.Path.{sym, ap, _∙_}
 use Rattle.block.specs.Layout.{size}
 use Rattle.lamp.specs.Lamp.{sizeRows}
-use Rattle.lamp.proofs.Steps.{none-stops}
+use Rattle.lamp.proofs.Tried.{none-stops}
 use Rattle.lamp.proofs.Heads.{few-posts, many-posts, other-length, size-passes}
 
 returns : tie.Need-returns

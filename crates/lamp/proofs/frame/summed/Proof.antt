@@ -8,7 +8,7 @@ use Rattle.words.specs.Numbers.{wordAt, wrapped}
 use Rattle.block.specs.Layout.{sumAt}
 use Rattle.block.specs.Block.{posts, statedSum, earlierSum}
 use Rattle.lamp.specs.Lamp.{sumRows}
-use Rattle.lamp.proofs.Steps.{none-stops}
+use Rattle.lamp.proofs.Tried.{none-stops}
 use Rattle.lamp.proofs.Heads.{other-sum, sum-passes}
 
 cast-n : tie.Need-cast-n

@@ -4,7 +4,7 @@ use Rattle.lamp.proofs.rules.board.Tie as tie
 use mathlib.Core.Path.{_∙_}
 use mathlib.Core.List.{_++_}
 use Rattle.lamp.specs.Lamp.{ringRows, triangleRows, outerRows}
-use Rattle.lamp.proofs.Steps.{stops, goes-on}
+use Rattle.lamp.proofs.Tried.{stops, goes-on}
 
 rings-of-requires : tie.Need-rings-of-requires
 rings-of-requires c κs = search needs

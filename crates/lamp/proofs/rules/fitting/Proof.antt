@@ -11,7 +11,7 @@ use Rattle.lamp.specs.Given.{accepted, replyOf, given}
 use Rattle.lamp.specs.Refusals.{numberOf, placeOf}
 use Rattle.lamp.specs.Loaded.{rowsFrom}
 use Rattle.lamp.proofs.Given.{given-end}
-use Rattle.lamp.proofs.Boards.{rows-refused, rows-passed, rows-end}
+use Rattle.lamp.proofs.BoardRows.{rows-refused, rows-passed, rows-end}
 use borrow.Author.Needs.{needs}
 
 abbrev Inv-loop : tie.InvT-loop

@@ -3,8 +3,8 @@ use Rattle.lamp.proofs.rules.outer_of.Statement.{statement}
 use Rattle.lamp.proofs.rules.outer_of.Tie as tie
 use borrow.Author.Tests.{not-true, not-false}
 use Rattle.lamp.specs.Lamp.{outerRows}
-use Rattle.lamp.proofs.Steps.{none-stops}
-use Rattle.lamp.proofs.Boards.{outer-bad, outer-passes}
+use Rattle.lamp.proofs.Tried.{none-stops}
+use Rattle.lamp.proofs.BoardRows.{outer-bad, outer-passes}
 
 shared-slice-read-is-outer : tie.Need-shared-slice-read-is-outer
 shared-slice-read-is-outer c = search needs

@@ -4,7 +4,7 @@ use Rattle.lamp.proofs.rules.position.Tie as tie
 use mathlib.Core.Path.{_≡_, sym, ap, _∙_}
 use Rattle.order.specs.declared.Fit.{Fit}
 use Rattle.lamp.specs.Given.{replyOf}
-use Rattle.lamp.proofs.Boards.{answerAt, position-found, rule-listed, rule-name}
+use Rattle.lamp.proofs.BoardRows.{answerAt, position-found, rule-listed, rule-name}
 
 rule-at-requires : tie.Need-rule-at-requires
 rule-at-requires c κs =

@@ -2,8 +2,8 @@ use borrow.Author.Needs.{needs}
 use Rattle.lamp.proofs.rules.rings_of.Statement.{statement}
 use Rattle.lamp.proofs.rules.rings_of.Tie as tie
 use Rattle.lamp.specs.Lamp.{ringRows}
-use Rattle.lamp.proofs.Steps.{none-stops}
-use Rattle.lamp.proofs.Boards.{ring-bad, rings-pass}
+use Rattle.lamp.proofs.Tried.{none-stops}
+use Rattle.lamp.proofs.BoardRows.{ring-bad, rings-pass}
 
 first-bad-ring-requires : tie.Need-first-bad-ring-requires
 first-bad-ring-requires c κs = search needs

@@ -2,8 +2,8 @@ use borrow.Author.Needs.{needs}
 use Rattle.lamp.proofs.rules.triangles_of.Statement.{statement}
 use Rattle.lamp.proofs.rules.triangles_of.Tie as tie
 use Rattle.lamp.specs.Lamp.{triangleRows}
-use Rattle.lamp.proofs.Steps.{none-stops}
-use Rattle.lamp.proofs.Boards.{triangle-bad, triangles-pass}
+use Rattle.lamp.proofs.Tried.{none-stops}
+use Rattle.lamp.proofs.BoardRows.{triangle-bad, triangles-pass}
 
 first-bad-triangle-requires : tie.Need-first-bad-triangle-requires
 first-bad-triangle-requires c κs = search needs

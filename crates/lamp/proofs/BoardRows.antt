@@ -18,15 +18,15 @@ use Rattle.rings.proofs.Held.{held-length}
 use Rattle.order.specs.Ranked.{RankedBelow, Ranked, Listed, fitOf}
 use Rattle.order.specs.declared.Fit.{Fit}
 use Rattle.order.proofs.Sound.{position-says}
-use Rattle.lamp.specs.Lamp.{name, ringFault, triangleFault, ringRow, triangleRow, outerRow, fewRow, brokenRow}
-use Rattle.lamp.specs.Lamp.{ringRows, triangleRows, outerRows, positionRows, checkRows, blockRows, headerRows, sumRows}
+use Rattle.lamp.specs.Lamp.{name, ringFault, triangleFault, ringRow, triangleRow, outerRow, fewRow, brokenRow, ringRows, triangleRows}
+use Rattle.lamp.specs.Lamp.{outerRows, positionRows, checkRows, blockRows, headerRows, sumRows}
 use Rattle.lamp.specs.Given.{accepted, refused, replyOf, given, checkReply, NoneApplies}
 use Rattle.lamp.specs.Loaded.{loadRows, loadedRows, rowsFrom, Trimmed, Entered, Ringed}
 use Rattle.lamp.specs.declared.Refusal.the-variants.{Ring, Triangle, Outer, Few, Broken}
 use Rattle.lamp.specs.declared.Answer.{Answer}
 use Rattle.lamp.specs.declared.Answer.the-variants.{Accepted, Refused}
 use Rattle.lamp.proofs.Given.{given-first, given-past, given-none, given-says, given-refused, refused-any}
-use Rattle.lamp.proofs.Steps.{found, not-found}
+use Rattle.lamp.proofs.Tried.{found, not-found}
 
 -- what the code answers for what the rule found in position k
 abbrev pub answerAt : ℕ → Fit → Answer

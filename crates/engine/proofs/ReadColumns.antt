@@ -20,7 +20,7 @@ use Rattle.block.specs.Layout.{limit}
 use Rattle.order.proofs.Fitting.{fits-once, fits-few}
 use Rattle.placing.specs.Stages.{Stage, stage}
 use Rattle.placing.proofs.Steps.{contours, stage-placed}
-use Rattle.shift.proofs.Sheet.{drawn-within}
+use Rattle.shift.proofs.DrawnSays.{drawn-within}
 use Rattle.contour.specs.Arrays.{along, Below}
 use Rattle.order.specs.Fitted.{Fitted}
 use Rattle.engine.specs.Shows.{Shows, Holds, Columned}
