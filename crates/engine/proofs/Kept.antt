@@ -53,7 +53,7 @@ module _ (G : List (List ℕ)) (t : Stage) (v : ℕ) (s : Step G t v) (K : Kept 
   abbrev t' : Stage
   t' = place G t v
 
-  old : (a : ℕ) → In a (t .placed) → ¬ (a ≡ v)
+  pub old : (a : ℕ) → In a (t .placed) → ¬ (a ≡ v)
   old a h e = s .new (rw e at h)
 
   R : Recast t (K .B) (s .X ++ s .p ∷ (s .M ++ s .q ∷ s .Y))

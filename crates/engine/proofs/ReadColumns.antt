@@ -19,7 +19,7 @@ use Rattle.order.proofs.Contour.{Contour}
 use Rattle.block.specs.Layout.{limit}
 use Rattle.order.proofs.Fitting.{fits-once, fits-few}
 use Rattle.placing.specs.Stages.{Stage, stage}
-use Rattle.placing.proofs.Steps.{contours, stage-placed}
+use Rattle.placing.proofs.Steps.{contours, stage-placed, stage-first}
 use Rattle.shift.proofs.DrawnSays.{drawn-within}
 use Rattle.contour.specs.Arrays.{along, Below}
 use Rattle.order.specs.Fitted.{Fitted}
@@ -120,9 +120,6 @@ module _ (at ents vs rank : List ℕ) (A : Fitted at ents vs rank) (k : ℕ) (h 
   among : (u : ℕ) → In u (t .contour) → In u vs
   among u q = let w = position u (on-placed u q) in subst (λ (a : ℕ). In a vs) (w .2) (place-in vs (w .0) (omega (arith, w .1)))
 
-  v1-is : post (t .placed) 1 ≡ getD vs 0 0
-  v1-is = ap (λ (l : List ℕ). post l 1) (stage-placed G vs k h i) ∙ getD-take k vs 0 0 (omega arith)
-
   record Whole : Type 0 where
     L : List ℕ
     is : t .contour ≡ getD vs 0 0 ∷ L
@@ -147,10 +144,10 @@ module _ (at ents vs rank : List ℕ) (A : Fitted at ents vs rank) (k : ℕ) (h 
       ∙ sym e
 
   origin : t .x (getD vs 0 0) ≡ 0
-  origin = ap (t .x) (sym v1-is) ∙ K .origin
+  origin = ap (t .x) (sym (stage-first G vs k h i)) ∙ K .origin
 
   none : getD off (getD vs 0 0) 0 ≡ 0
-  none = ap (λ (a : ℕ). getD off a 0) (sym v1-is) ∙ S .from-none
+  none = ap (λ (a : ℕ). getD off a 0) (sym (stage-first G vs k h i)) ∙ S .from-none
 
   below : (m : ℕ) → length G ≤ m → Below m (until right (getD vs 0 0) (getD vs 1 0) (length vs))
   below m q = rw path-is (below-all m (t .contour) (λ a j. omega (arith, named a j)))

@@ -6,8 +6,8 @@ use mathlib.Core.List.{List, [], _∷_, _++_, append-assoc}
 use native.Mathlib.Omega.{arith}
 use lib.ListN.{length, getD, set, length-set}
 use lib.Seq.{getD-set-same, getD-set-other}
-use Rattle.words.specs.Lists.{In, Head, Adj}
-use Rattle.words.proofs.Lists.{Once, once-split, once-drop, in-left, in-right, adj-left, adj-right, last-append}
+use Rattle.words.specs.Lists.{In, Adj}
+use Rattle.words.proofs.Lists.{Once, once-split, once-drop, in-left, in-right, adj-left, adj-right, last-append, in-run, adj-more}
 use Rattle.block.specs.Layout.{limit, bias}
 use Rattle.placing.specs.Stages.{Stage, place}
 use Rattle.placing.proofs.Steps.{Step}
@@ -54,29 +54,10 @@ module _ (G : List (List ℕ)) (t : Stage) (v : ℕ) (s : Step G t v) (K : Kept 
   aparts a b h = S .apart a b (run-adj a b h)
 
   apart-in : (a b : ℕ) → Adj (p ∷ M) a b → t .x b ≡ t .x a + getD off b 0
-  apart-in a b h = aparts a b (weaken (p ∷ M) h)
-    where
-      head : (l : List ℕ) → Head l b → Head (l ++ q ∷ []) b
-      head [] h = absurd h
-      head (x ∷ l) h = h
-
-      weaken : (l : List ℕ) → Adj l a b → Adj (l ++ q ∷ []) a b
-      weaken [] h = absurd h
-      weaken (x ∷ l) (inl h) = inl (h .0, head l (h .1))
-      weaken (x ∷ l) (inr h) = inr (weaken l h)
+  apart-in a b h = aparts a b (adj-more a b (p ∷ M) q h)
 
   on-run : (a : ℕ) → In a (p ∷ (M ++ q ∷ [])) → In a (t .placed)
-  on-run a h = s .on-placed a (rw (s .before) (in-right a (s .X) (p ∷ (M ++ q ∷ s .Y)) (go h)))
-    where
-      onward : (l : List ℕ) → In a (l ++ q ∷ []) → In a (l ++ q ∷ s .Y)
-      onward [] (inl e) = inl e
-      onward [] (inr z) = absurd z
-      onward (x ∷ l) (inl e) = inl e
-      onward (x ∷ l) (inr i) = inr (onward l i)
-
-      go : In a (p ∷ (M ++ q ∷ [])) → In a (p ∷ (M ++ q ∷ s .Y))
-      go (inl e) = inl e
-      go (inr i) = inr (onward M i)
+  on-run a h = s .on-placed a (rw (s .before) (in-run a (s .X) p M q (s .Y) h))
 
   on-in : (a : ℕ) → In a M → In a (t .placed)
   on-in a h = on-run a (inr (in-left a M (q ∷ []) h))

@@ -15,7 +15,7 @@ use Rattle.placing.proofs.Steps.{Step, place-placed}
 use Rattle.shift.proofs.Groups.{sides}
 use Rattle.block.specs.Layout.{bias}
 use Rattle.engine.specs.Shows.{Shows}
-use Rattle.engine.proofs.Kept.{Kept, StepMoves, step-moves, old-placed, still-on, was-on, cover-in, cover-off, first-kept, first-on}
+use Rattle.engine.proofs.Kept.{old, Kept, StepMoves, step-moves, old-placed, still-on, was-on, cover-in, cover-off, first-kept, first-on}
 
 -- how a step changes the arrays: t is the next stage, v its new post over p, M, q
 pub record Changed (t : Stage) (v p : ℕ) (M : List ℕ) (q : ℕ) (ys off cover left right ys' off' cover' left' right' : List ℕ) : Type 0 where
@@ -54,9 +54,6 @@ module _ (G : List (List ℕ)) (t : Stage) (v : ℕ) (s : Step G t v) (K : Kept 
   abbrev q : ℕ
   q = s .q
 
-  old : (a : ℕ) → In a (t .placed) → ¬ (a ≡ v)
-  old a h e = s .new (rw e at h)
-
   on-left : (a : ℕ) → In a (X ++ p ∷ []) → In a (t .contour)
   on-left a h = rw (s .before) (subst (In a) (append-assoc X (p ∷ []) (M ++ q ∷ Y)) (in-left a (X ++ p ∷ []) (M ++ q ∷ Y) h))
 
@@ -75,7 +72,7 @@ module _ (G : List (List ℕ)) (t : Stage) (v : ℕ) (s : Step G t v) (K : Kept 
 
   pub left-not : (a : ℕ) → In a (X ++ p ∷ []) → (¬ (a ≡ v)) × (¬ (a ≡ q)) × ¬ (In a M)
   left-not a h = (
-    old a (s .on-placed a (on-left a h)),
+    old G t v s K a (s .on-placed a (on-left a h)),
     (λ e. left-apart a h (in-right a M (q ∷ Y) (inl e))),
     (λ i. left-apart a h (in-left a M (q ∷ Y) i)),
   )
@@ -85,7 +82,7 @@ module _ (G : List (List ℕ)) (t : Stage) (v : ℕ) (s : Step G t v) (K : Kept 
 
   pub right-not : (a : ℕ) → In a (q ∷ Y) → (¬ (a ≡ v)) × (¬ (a ≡ p)) × ¬ (In a M)
   right-not a h = (
-    old a (s .on-placed a (on-right a h)),
+    old G t v s K a (s .on-placed a (on-right a h)),
     (λ e. left-apart p p-in (subst (λ (b : ℕ). In b (M ++ q ∷ Y)) e (in-right a M (q ∷ Y) h))),
     (λ i. in-apart a i h),
   )
@@ -133,7 +130,7 @@ module _ (G : List (List ℕ)) (t : Stage) (v : ℕ) (s : Step G t v) (K : Kept 
 
     height : (u : ℕ) → In u (t' .placed) → getD ys' u 0 ≡ t' .y u
     height u h =
-        in-cases u (t .placed) (v ∷ []) (λ i. N .ys-old u (old u i) ∙ S .height u i ∙ sym (m .one .height u i))
+        in-cases u (t .placed) (v ∷ []) (λ i. N .ys-old u (old G t v s K u i) ∙ S .height u i ∙ sym (m .one .height u i))
         (elim [ inl e ↦ rw e (N .ys-new) | inr z ↦ absurd z ])
         (subst (In u) (place-placed G t v) h)
 
@@ -214,7 +211,7 @@ module _ (G : List (List ℕ)) (t : Stage) (v : ℕ) (s : Step G t v) (K : Kept 
         where
           go : Dec (In u M) → getD cover' u 0 ≡ t' .cover u
           go (yes i) = N .cover-in u i ∙ sym (cover-in G t v s K u i)
-          go (no i) = N .cover-old u (old u hu) i ∙ S .covers u hu (was-off i) ∙ sym (cover-off G t v s K u i)
+          go (no i) = N .cover-old u (old G t v s K u hu) i ∙ S .covers u hu (was-off i) ∙ sym (cover-off G t v s K u i)
 
       hangs : t' .x u + bias ≡ t' .x (t' .cover u) + getD off' u 0
       hangs = go (in-dec u M)
@@ -223,7 +220,7 @@ module _ (G : List (List ℕ)) (t : Stage) (v : ℕ) (s : Step G t v) (K : Kept 
           go (yes i) = rw (cover-in G t v s K u i) (N .off-in u i)
           go (no i) =
               rw (cover-off G t v s K u i)
-              (omega (arith, m .alike u hu (was-off i), S .hangs u hu (was-off i), N .off-old u (old u hu) (λ e. n (rw e q-on)) i))
+              (omega (arith, m .alike u hu (was-off i), S .hangs u hu (was-off i), N .off-old u (old G t v s K u hu) (λ e. n (rw e q-on)) i))
 
     pub shows-next : Shows t' ys' off' cover' left' right'
     shows-next =

@@ -7,7 +7,6 @@ use mathlib.Core.List.{List, [], _∷_, _++_, flatMap}
 use native.Mathlib.Omega.{arith}
 use lib.Dec.{eqb}
 use lib.ListN.{length, getD, take, drop}
-use lib.Seq.{getD-take}
 use borrow.Author.Tests.{eq-eqb, ne-eqb}
 use Rattle.words.specs.Lists.{In, mem, lastOf, Head, Adj}
 use Rattle.words.specs.Positions.{post}
@@ -22,7 +21,7 @@ use Rattle.order.proofs.Fitting.{fits-few}
 use Rattle.placing.specs.Stages.{Stage, stage}
 use Rattle.placing.specs.Records.{leftOf, rightOf, standing, recordOf, entriesOf}
 use Rattle.placing.specs.declared.Standing.the-variants.{Waiting, OnContour, Covered}
-use Rattle.placing.proofs.Steps.{contours, stage-placed}
+use Rattle.placing.proofs.Steps.{contours, stage-placed, stage-first, stage-second}
 use Rattle.order.specs.Opens.{before}
 use Rattle.order.specs.Fitted.{Fitted}
 use Rattle.engine.specs.Shows.{Shows, Columned}
@@ -110,12 +109,6 @@ module _ (at ents vs rank : List ℕ) (A : Fitted at ents vs rank) (k : ℕ) (h 
   C : Contour (After G) (post vs 1) (post vs 2) (take k vs) (t .contour)
   C = contours G (A .vn) vs (A .plane) (A .fits) k h i
 
-  v1-is : post (t .placed) 1 ≡ post vs 1
-  v1-is = ap (λ (l : List ℕ). post l 1) (stage-placed G vs k h i) ∙ getD-take k vs 0 0 (omega arith)
-
-  v2-is : post (t .placed) 2 ≡ post vs 2
-  v2-is = ap (λ (l : List ℕ). post l 2) (stage-placed G vs k h i) ∙ getD-take k vs 1 0 (omega arith)
-
   left-at : (u : ℕ) → In u (t .contour) → getD left u 0 ≡ leftOf (t .contour) u
   left-at u q = go (t .contour) (C .first) (C .once) q (λ a. S .left-is a u)
     where
@@ -125,7 +118,7 @@ module _ (at ents vs rank : List ℕ) (A : Fitted at ents vs rank) (k : ℕ) (h 
         where
           by : (u ≡ x) ⊎ ((a : ℕ) × Adj (x ∷ l) a u) → getD left u 0 ≡ leftOf (x ∷ l) u
           by (inl e) =
-              let v : u ≡ post (t .placed) 1 = e ∙ f ∙ sym v1-is in
+              let v : u ≡ post (t .placed) 1 = e ∙ f ∙ sym (stage-first G vs k h i) in
               subst⁻¹ (λ (a : ℕ). getD left a 0 ≡ a) v (S .first) ∙ sym (left-first x l u (λ m. o .0 (rw e at m)))
           by (inr w) = s (w .0) (w .1) ∙ sym (left-adj (x ∷ l) (w .0) u o (w .1))
 
@@ -138,7 +131,7 @@ module _ (at ents vs rank : List ℕ) (A : Fitted at ents vs rank) (k : ℕ) (h 
         where
           by : (u ≡ lastOf x l) ⊎ ((b : ℕ) × Adj (x ∷ l) u b) → getD right u 0 ≡ rightOf (x ∷ l) u
           by (inl e) =
-              let v : u ≡ post (t .placed) 2 = e ∙ f ∙ sym v2-is in
+              let v : u ≡ post (t .placed) 2 = e ∙ f ∙ sym (stage-second G vs k h i) in
               subst⁻¹ (λ (a : ℕ). getD right a 0 ≡ a) v (S .last) ∙ subst⁻¹ (λ (a : ℕ). a ≡ rightOf (x ∷ l) a) e (sym (right-last x l o))
           by (inr w) = s (w .0) (w .1) ∙ sym (right-adj (x ∷ l) u (w .0) o (w .1))
 

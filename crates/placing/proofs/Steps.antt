@@ -132,6 +132,13 @@ module _ (G : List (List ℕ)) (vs : List ℕ) where
   pub stage-placed : (k : ℕ) → 3 ≤ k → k ≤ length vs → stage G (take k vs) .placed ≡ take k vs
   stage-placed k h i = stage-has G (take k vs) (let l = length-take-le k vs i in omega arith)
 
+  -- v1 and v2 are the first two posts of every stage
+  pub stage-first : (k : ℕ) → 3 ≤ k → k ≤ length vs → post (stage G (take k vs) .placed) 1 ≡ post vs 1
+  stage-first k h i = ap (λ (l : List ℕ). post l 1) (stage-placed k h i) ∙ getD-take k vs 0 0 (omega arith)
+
+  pub stage-second : (k : ℕ) → 3 ≤ k → k ≤ length vs → post (stage G (take k vs) .placed) 2 ≡ post vs 2
+  stage-second k h i = ap (λ (l : List ℕ). post l 2) (stage-placed k h i) ∙ getD-take k vs 1 0 (omega arith)
+
 -- ---- a list that fits so far, on plane rings
 -- from 3 on, a number at a time
 from-three : (Q : ℕ → Type 0) (n : ℕ) → Q 3 → ((k : ℕ) → 3 ≤ k → k < n → Q k → Q (k + 1)) → (k : ℕ) → 3 ≤ k → k ≤ n → Q k
@@ -217,10 +224,9 @@ module _ (G : List (List ℕ)) (vn : ℕ) (vs : List ℕ) (P : Plane G (post vs 
   stage-now k h i s =
       let t = stage G (take k vs) in
       let t' = place G t (post vs (k + 1)) in
-      let e = stage-placed G vs k h (omega arith) in
-      let C = at-ends G (post vs 1) (post vs 2) _ _ (t' .placed) (t' .contour)
-      (sym (ap (λ (l : List ℕ). post l 1) e ∙ getD-take k vs 0 0 (omega arith)))
-      (sym (ap (λ (l : List ℕ). post l 2) e ∙ getD-take k vs 1 0 (omega arith))) (s .now) in
+      let e1 = stage-first G vs k h (omega arith) in
+      let e2 = stage-second G vs k h (omega arith) in
+      let C = at-ends G (post vs 1) (post vs 2) _ _ (t' .placed) (t' .contour) (sym e1) (sym e2) (s .now) in
       let D : From (stage G (take (k + 1) vs) .placed) (stage G (take (k + 1) vs) .contour) = rw (stage-next G vs k h i) C in
       subst (λ (l : List ℕ). From l (stage G (take (k + 1) vs) .contour)) (stage-placed G vs (k + 1) (omega arith) (omega arith)) D
 

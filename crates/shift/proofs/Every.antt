@@ -5,7 +5,7 @@ use mathlib.Core.Logic.{_⊎_, inl, inr, _≢_}
 use mathlib.Core.List.{List, [], _∷_, _++_}
 use native.Mathlib.Omega.{arith}
 use lib.ListN.{length, take}
-use lib.Seq.{getD-take, length-take-le}
+use lib.Seq.{length-take-le}
 use Rattle.words.specs.Lists.{In}
 use Rattle.words.specs.Positions.{post}
 use Rattle.words.proofs.Lists.{Once}
@@ -14,7 +14,7 @@ use Rattle.rings.specs.Plane.{Plane, Wire}
 use Rattle.order.specs.Fitting.{FitsSoFar}
 use Rattle.order.proofs.Fitting.{fits-faces, fits-once}
 use Rattle.placing.specs.Stages.{Stage, place, stage}
-use Rattle.placing.proofs.Steps.{Step, stage-next, stage-placed, step-at, at-each-stage}
+use Rattle.placing.proofs.Steps.{Step, stage-next, stage-placed, stage-first, stage-second, step-at, at-each-stage}
 use Rattle.drawing.specs.Meeting.{NoneMeet, OnGrid}
 use Rattle.words.proofs.Chains.{Chain}
 use Rattle.drawing.proofs.Build.{Built, Good}
@@ -96,12 +96,12 @@ module _ (G : List (List ℕ)) (vn : ℕ) (vs : List ℕ) (P : Plane G (post vs 
     even-at = even drawn-at
 
     pub left-at : t .x (post vs 1) ≡ 0
-    left-at = sym (ap (λ (l : List ℕ). t .x (post l 1)) placed-at ∙ ap (t .x) (getD-take k vs 0 0 (omega arith))) ∙ tied-at k h i .left
+    left-at = ap (t .x) (sym (stage-first G vs k h i)) ∙ tied-at k h i .left
 
     pub right-at : t .x (post vs 2) ≡ 2 * k - 4
     right-at =
         let c = count-at in
-        let e = ap (λ (l : List ℕ). t .x (post l 2)) placed-at ∙ ap (t .x) (getD-take k vs 1 0 (omega arith)) in
+        let e = ap (t .x) (stage-second G vs k h i) in
         omega (arith, tied-at k h i .right)
 
     -- the contour's posts are placed, and each post placed is in the group of one of them, and of no other

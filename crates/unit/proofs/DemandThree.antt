@@ -1,6 +1,6 @@
 -- The third demand, of blocks whose order passes: no stage can short.
 use Prim.Native.Nat.{ℕ, _+_, _*_, _-_, _≤_, _<_}
-use mathlib.Core.Path.{_≡_, sym, _∙_}
+use mathlib.Core.Path.{_≡_}
 use mathlib.Core.List.{List}
 use native.Mathlib.Omega.{arith}
 use lib.ListN.{length, take}
@@ -13,6 +13,7 @@ use Rattle.order.proofs.Fitting.{passes-plane, passes-fits}
 use Rattle.drawing.specs.Meeting.{OnGrid, NoneMeet}
 use Rattle.shift.proofs.Every.{grid-at, no-short-at, moves-at}
 use Rattle.lamp.specs.Given.{accepted}
+use Rattle.lamp.proofs.Loads.{order-length}
 use Rattle.unit.specs.Replies.{stageAt}
 use Rattle.unit.specs.Demands.{Services, places, Placed, Moves, Demand3}
 
@@ -32,27 +33,24 @@ module _ (s : List ℕ) (S : Passing s) where
   pub fits : FitsSoFar (lists s) vn (order s)
   fits = passes-fits (lists s) (order s) (S .passes)
 
-  pub many : length (order s) ≡ posts s
-  many = S .passes .board .all ∙ sym (S .all)
-
   module _ (k : ℕ) (h : 3 ≤ k) where
     pub on-grid : k ≤ posts s → OnGrid (places s k) (Placed s k) (2 * k - 4) (k - 2)
     unfolding stageAt
-    on-grid i = grid-at (lists s) vn (order s) plane fits k h (omega (arith, many))
+    on-grid i = grid-at (lists s) vn (order s) plane fits k h (omega (arith, order-length s))
 
     pub no-short : k ≤ posts s → NoneMeet (places s k) (Wire (lists s) (take k (order s)))
     unfolding stageAt
-    no-short i = no-short-at (lists s) vn (order s) plane fits k h (omega (arith, many))
+    no-short i = no-short-at (lists s) vn (order s) plane fits k h (omega (arith, order-length s))
 
     pub moves : k < posts s → (u : ℕ) → Placed s k u → Moves (places s k) (places s (k + 1)) u
     unfolding stageAt
     moves i u a =
-        let m = moves-at (lists s) vn (order s) plane fits k h (omega (arith, many)) u a in
+        let m = moves-at (lists s) vn (order s) plane fits k h (omega (arith, order-length s)) u a in
         record { height = m .0; never-left = m .1; at-most-two = m .2 }
 
 -- the demand, for a unit that accepts only such blocks, with their n
 pub demand-3 : (U : Services)
-    → ((s : List ℕ) (n : ℕ) → U .check s ≡ accepted n → Passes (lists s) (order s) × (n ≡ posts s) × (posts s ≡ length (lists s)) × (3 ≤ posts s))
+    → ((s : List ℕ) (n : ℕ) → U .check s ≡ accepted n → Passes (lists s) (order s) × (n ≡ posts s) × (posts s ≡ length (lists s)))
     → Demand3 U
 demand-3 U passes =
     record {

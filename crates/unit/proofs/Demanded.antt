@@ -78,7 +78,7 @@ pub third-demand : Demand3 thePaper
 third-demand =
     demand-3 thePaper
     (λ s n e.
-    (none-passes s (accepted-none s n e), accepted-posts s n e, sym (lists-count s), accepted-framed s n e .posts-least))
+    (none-passes s (accepted-none s n e), accepted-posts s n e, sym (lists-count s)))
 
 -- ---- how tight the services are held: two units that meet demands 1 and 2 reply alike, and leave the same buffer
 

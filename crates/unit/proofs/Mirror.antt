@@ -7,19 +7,20 @@ use Rattle.block.specs.Block.{posts, order, lists}
 use Rattle.drawing.specs.Areas.{PositiveArea}
 use Rattle.shift.proofs.Mirror.{no-mirror-at}
 use Rattle.lamp.specs.Given.{accepted, checkReply}
+use Rattle.lamp.proofs.Loads.{order-length}
 use Rattle.lamp.proofs.Accepts.{lists-count, none-passes, accepted-none, accepted-posts}
 use Rattle.unit.specs.Replies.{stageAt, sheetReply}
 use Rattle.unit.specs.Demands.{thePaper, Accepted, places, onSheet}
 use Rattle.unit.specs.Mirror.{Inner, NoMirror}
-use Rattle.unit.proofs.DemandThree.{Passing, vn, plane, fits, many}
+use Rattle.unit.proofs.DemandThree.{Passing, vn, plane, fits}
 use Rattle.unit.proofs.Written.{sheet-passes, sheet-least, sheet-most, sheet-x, sheet-y}
 
 module _ (s : List ℕ) (S : Passing s) (k : ℕ) (h : 3 ≤ k) (i : k ≤ posts s) where
   turns : (u a b : ℕ) → Inner s k u a b → PositiveArea (places s k) u a b
   unfolding stageAt
   turns u a b t =
-      no-mirror-at (lists s) (vn s S) (order s) (plane s S) (fits s S) k h (omega (arith, many s S)) u a b (t .turn) (t .placed-u) (t .placed-a) (t .placed-b)
-      (λ o. t .not-outer (rw (S .all) o))
+      no-mirror-at (lists s) (vn s S) (order s) (plane s S) (fits s S) k h (omega (arith, order-length s)) u a b (t .turn)
+      (t .placed-u) (t .placed-a) (t .placed-b) (λ o. t .not-outer (rw (S .all) o))
 
 -- the same numbers, read off the sheet
 module _ (s : List ℕ) (k : ℕ) (b : List ℕ) (g : Accepted (sheetReply s k b)) where
