@@ -2,8 +2,7 @@
  *
  * Every call is defined for every block, stage, name and buffer length: nothing needs to be checked first. A caller must not hand a null
  * pointer (an empty block or buffer is a length of 0 with any non-null pointer), nor a length beyond what the pointer has, nor a buffer that
- * overlaps the block. Calls keep nothing between them and use at most 64 bytes of
- * stack for each post of the limit: 64 KB at 1,000.
+ * overlaps the block. Calls keep nothing between them, and use at most 64 bytes of stack for each post that the longest board has.
  *
  * reply: number * 65536 + value; number 0 = accepted (value: n for check, 2k for sheet, 0 for post), else the refusal's number with its place:
  * 1 to 13 for check, also 15 and 16 for sheet, and 15 and 17 for post. 14 is retired: it is never given, and its number is not used again.

@@ -216,7 +216,7 @@ pub const KINDS: &[Damage] = damages![
         draft.put(N_AT, rng.pick(&[n - 1, n + 1]))
     },
     "n out of bounds": |draft, rng| {
-        let n = rng.pick(&[0, 1, FEWEST - 1, MOST + 1, 4096, 65535]);
+        let n = rng.pick(&[0, 1, FEWEST - 1, MOST + 1, 2 * MOST, 65535]);
         draft.put(N_AT, n as u16)
     },
     "another n": |draft, rng| draft.put(N_AT, rng.between(FEWEST, MOST) as u16),

@@ -140,7 +140,7 @@ mod tests {
         replies.0.remove(&(Sheet, 13));
         assert_eq!(replies.faults(true), ["sheet never gave 13"]);
         assert_eq!(replies.faults(false), [""; 0]);
-        for (service, number) in [(Check, 14), (Check, 16), (Sheet, 17), (Post, 18)] {
+        for (service, number) in [(Check, 14), (Check, 16), (Sheet, 17), (Post, 99)] {
             let mut replies = all_that_can_come();
             replies.count(service, Some(number), 2);
             assert_eq!(replies.faults(false).len(), 1, "{number}");

@@ -1,4 +1,4 @@
--- What the engine's loops do to its arrays: each array is by name.
+-- The linked contour in arrays by name, and what placing a post over its run does to them.
 use Prim.Native.Nat.{ℕ, zero, suc, _+_, _-_, _/_, _≤_, _<_}
 use mathlib.Core.Path.{_≡_}
 use mathlib.Core.List.{List, [], _∷_}

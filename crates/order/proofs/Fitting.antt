@@ -1,19 +1,23 @@
 -- A list that fits so far grows the contour by a post at a time; and an order that passes the tests fits.
-use mathlib.Core.Path.{_≡_}
-use mathlib.Core.List.{List, [], _∷_}
-use Prim.Native.Nat.{ℕ, _-_, _≤_}
+use mathlib.Core.Path.{_≡_, sym, _∙_, subst}
+use mathlib.Core.Logic.{inl, inr}
+use mathlib.Core.Bool.{true}
+use mathlib.Core.List.{List, [], _∷_, _++_}
+use Prim.Native.Nat.{ℕ, _+_, _-_, _≤_, _<_}
 use native.Mathlib.Omega.{arith}
-use lib.ListN.{length, take}
-use lib.Seq.{getD-take}
+use native.Mathlib.Decide.{decLt}
+use lib.ListN.{length, getD, take, length-append, List·getD-append}
+use lib.Seq.{getD-take, getD-at, length-take-le, take-take, take-append-le, take-at}
 use Rattle.words.specs.Lists.{In}
 use Rattle.words.specs.Positions.{post, earlier}
-use Rattle.words.proofs.Lists.{Once, once-length, all-there}
-use Rattle.words.proofs.Tests.{different-once, once-different}
-use Rattle.words.proofs.Positions.{in-later, post-new, earlier-or}
+use Rattle.words.proofs.Lists.{Once, in-cases, once-length, once-join, all-there}
+use Rattle.words.proofs.Tests.{place-in, different-once, once-different}
+use Rattle.words.proofs.Positions.{in-take, in-later, post-new, earlier-or}
 use Rattle.rings.specs.Rings.{ring}
 use Rattle.rings.specs.Plane.{Plane}
 use Rattle.rings.proofs.Around.{After, follows-after}
 use Rattle.rings.proofs.Says.{Faces, faces-plane, entry-below, entry-other}
+use Rattle.order.specs.Order.{twoPlaced, oneRun}
 use Rattle.order.specs.Fitting.{FitsSoFar}
 use Rattle.order.proofs.Contour.{Contour, contour-start}
 use Rattle.order.proofs.Runs.{rings}
@@ -51,6 +55,63 @@ module _ (G : List (List ℕ)) (vn : ℕ) (vs : List ℕ) (P : Plane G (post vs 
   fits-grow k h i K C =
       grow G fits-faces (post vs 1) (post vs 2) vn fits-outer (earlier vs k) K (post vs k) (getD-take (k - 1) vs 0 0 (omega arith)) C
       (post-new vs fits-once k (omega arith) i) (A .two k h i) (A .run k h i) (full k (omega arith) i)
+
+-- ---- a list's beginnings fit, and so does the list with a post more that passes the rule
+module _ (G : List (List ℕ)) (vn : ℕ) (vs : List ℕ) (A : FitsSoFar G vn vs) where
+  -- a test over the posts before a position and the post in it
+  abbrev At : (List ℕ → ℕ → Type 0) → List ℕ → ℕ → Type 0
+  At Q l k = Q (earlier l k) (post l k)
+
+  pub fits-take : (j : ℕ) → j ≤ length vs → FitsSoFar G vn (take j vs)
+  fits-take j to =
+      record {
+        below = λ a i. let w = in-take j vs a i in subst (λ (b : ℕ). b < length G) (w .3) (A .below (getD vs (w .0) 0) (place-in vs (w .0) (w .2)));
+        once = λ a b h i e.
+            let q = sym (getD-take j vs a 0 (omega (arith, n))) ∙ e ∙ getD-take j vs b 0 (omega (arith, n)) in
+            A .once a b (omega (arith, n)) (omega (arith, n)) q;
+        two = λ k h i. same (λ l v. twoPlaced G l v ≡ true) k (omega arith) (omega (arith, n)) (A .two k h (omega (arith, n)));
+        run = λ k h i. same (λ l v. oneRun G l v ≡ true) k (omega arith) (omega (arith, n)) (A .run k h (omega (arith, n)));
+        last = λ k h i e. A .last k h (omega (arith, n)) (sym (getD-take j vs (k - 1) 0 (omega (arith, n))) ∙ e);
+      }
+    where
+      n : length (take j vs) ≡ j
+      n = length-take-le j vs to
+
+      same : (Q : List ℕ → ℕ → Type 0) (k : ℕ) → 1 ≤ k → k ≤ j → At Q vs k → At Q (take j vs) k
+      same Q k h i q = rw (take-take (k - 1) j vs (omega arith), getD-take j vs (k - 1) 0 (omega arith)) q
+
+  module _ (u : ℕ) (low : u < length G) (new : ¬ (In u vs)) (two : twoPlaced G vs u ≡ true) (one : oneRun G vs u ≡ true)
+      (last : u ≡ vn → length vs + 1 ≡ length G) where
+    n : length (vs ++ u ∷ []) ≡ length vs + 1
+    n = omega (arith, length-append vs (u ∷ []))
+
+    -- what holds at each position of vs, and of u after vs, holds at each position of both
+    more : (Q : List ℕ → ℕ → Type 0) (k : ℕ) → 1 ≤ k → k ≤ length (vs ++ u ∷ []) → (k ≤ length vs → At Q vs k) → Q vs u → At Q (vs ++ u ∷ []) k
+    more Q k h i f q = go (decLt (length vs) k)
+      where
+        go : Dec (length vs < k) → At Q (vs ++ u ∷ []) k
+        go (no m) = rw (take-append-le (k - 1) vs (u ∷ []) (omega arith), List·getD-append vs (u ∷ []) 0 (k - 1) (omega arith)) (f (omega arith))
+        go (yes m) =
+            let e : length vs ≡ k - 1 = omega (arith, n) in
+            rw (take-at vs (u ∷ []) (k - 1) e, getD-at vs u [] 0 (k - 1) e) q
+
+    pub fits-more : FitsSoFar G vn (vs ++ u ∷ [])
+    fits-more =
+        record {
+          below = λ a. in-cases a vs (u ∷ []) (A .below a) (elim [ inl e ↦ rw e low | inr z ↦ absurd z ]);
+          once = once-different (vs ++ u ∷ []) (once-join vs (u ∷ []) (different-once vs (A .once)) ((λ z. z), tt) apart);
+          two = λ k h i. more (λ l v. twoPlaced G l v ≡ true) k (omega arith) i (A .two k h) two;
+          run = λ k h i. more (λ l v. oneRun G l v ≡ true) k (omega arith) i (A .run k h) one;
+          last = λ k h i. at k h i (decLt (length vs) k);
+        }
+      where
+        apart : (a : ℕ) → In a vs → ¬ (In a (u ∷ []))
+        apart a i (inl e) = new (rw e at i)
+        apart a i (inr z) = z
+
+        at : (k : ℕ) → 1 ≤ k → k ≤ length (vs ++ u ∷ []) → Dec (length vs < k) → post (vs ++ u ∷ []) k ≡ vn → k ≡ length G
+        at k h i (no m) e = A .last k h (omega arith) (sym (List·getD-append vs (u ∷ []) 0 (k - 1) (omega arith)) ∙ e)
+        at k h i (yes m) e = let l = last (sym (getD-at vs u [] 0 (k - 1) (omega (arith, n))) ∙ e) in omega (arith, n)
 
 -- an order that passes: the rings are plane, and it fits to its end
 pub passes-plane : (G : List (List ℕ)) (vs : List ℕ) → Passes G vs → Plane G (post vs 1) (post vs 2) (post vs (length G))

@@ -3,9 +3,9 @@ use Prim.Native.Nat.{ℕ, zero, suc, _≤_, _<_}
 use mathlib.Core.Path.{_≡_, refl}
 use mathlib.Core.Logic.{inl, inr}
 use mathlib.Core.Bool.{true, false}
-use mathlib.Core.List.{List, [], _∷_}
+use mathlib.Core.List.{List, [], _∷_, _++_}
 use native.Mathlib.Omega.{arith}
-use lib.ListN.{length}
+use lib.ListN.{length, take, length-append}
 use Rattle.words.specs.First.{first, some}
 use Rattle.words.specs.Lists.{In, mem, allOf, anyOf, count}
 use Rattle.words.specs.Positions.{post, earlier}
@@ -14,6 +14,7 @@ use Rattle.words.proofs.Tests.{once-different}
 use Rattle.rings.specs.Boards.{listsD}
 use Rattle.order.specs.Order.{twoPlaced, from, lead, rest, leads, oneRun, begins, run}
 use Rattle.order.specs.Fitting.{FitsSoFar}
+use Rattle.order.proofs.Fitting.{fits-take, fits-more}
 
 -- the autumn block: after posts 0 and 1, post 3 has two earlier neighbours, and they are not one run
 pub two-D : twoPlaced listsD (0 ∷ 1 ∷ []) 3 ≡ true
@@ -78,3 +79,17 @@ fits-D =
     last (suc (suc zero)) h i e = absurd (omega (arith, e))
     last (suc (suc (suc zero))) h i e = absurd (omega (arith, e))
     last (suc (suc (suc (suc k)))) h i e = absurd (omega arith)
+
+-- post 3 fits next, and taken back again leaves a list that fits
+pub fits-D-next : FitsSoFar listsD 4 (begun ++ 3 ∷ [])
+unfolding first some mem anyOf count from rest leads twoPlaced oneRun
+fits-D-next = fits-more listsD 4 begun fits-D 3 (omega arith) new refl refl (λ e. absurd (omega (arith, e)))
+  where
+    new : ¬ (In 3 begun)
+    new (inl e) = omega (arith, e)
+    new (inr (inl e)) = omega (arith, e)
+    new (inr (inr (inl e))) = omega (arith, e)
+    new (inr (inr (inr z))) = z
+
+pub fits-D-back : FitsSoFar listsD 4 (take 3 (begun ++ 3 ∷ []))
+fits-D-back = fits-take listsD 4 (begun ++ 3 ∷ []) fits-D-next 3 (omega (arith, length-append begun (3 ∷ [])))

@@ -1,8 +1,8 @@
 // Sheets, replies and records as text on standard output. What is written no contract can say; it is compared with what it must be.
 ghost use mathlib.Core.Path.{_≡_};
-ghost use Prim.Native.Nat.{_*_};
+ghost use Prim.Native.Nat.{_+_, _*_};
 ghost use lib.ListN.{length};
-ghost use Rattle.block.specs.Layout.{limit};
+ghost use Rattle.block.specs.Layout.{limit, size};
 ghost use Rattle.unit.specs.Replies.{bufferAfter};
 use block::Block;
 use lamp::Answer;
@@ -23,7 +23,9 @@ pub fn text(t: &[u8]) {
 // What a program reads of its input: a byte more than the longest block has. Every longer input gets the same reply.
 const READ: usize = Block::LONGEST + 1;
 
-pub fn no_bytes() -> [u8; READ] {
+pub fn no_bytes() -> [u8; READ]
+    ensures { λ r. ⌜ size limit + 1 ≡ length r ⌝ }
+{
     [0u8; READ]
 }
 
