@@ -82,11 +82,11 @@ module _ (G : List (List ℕ)) (A : Faces G) where
   t u a b = flag (adj-dec (around (ring G u)) a b)
 
   -- darts and corners among the posts of S
-  abbrev pub D : List ℕ → ℕ
-  D = darts w t
+  abbrev pub dartsIn : List ℕ → ℕ
+  dartsIn = darts w t
 
-  abbrev pub C : List ℕ → ℕ
-  C = corners w t
+  abbrev pub cornersIn : List ℕ → ℕ
+  cornersIn = corners w t
 
   abbrev R : Rings (After G)
   R = rings G A
@@ -108,10 +108,10 @@ module _ (G : List (List ℕ)) (A : Faces G) where
   t-self : (u b : ℕ) → t u u b ≡ 0
   t-self u b = t-no u u b (R .self u b)
 
-  pub D-more : (z : ℕ) (S : List ℕ) → D (z ∷ S) ≡ D S + 2 * sum (w z) S
+  pub D-more : (z : ℕ) (S : List ℕ) → dartsIn (z ∷ S) ≡ dartsIn S + 2 * sum (w z) S
   D-more = darts-more w t w-sym w-self t-turn t-self
 
-  pub C-more : (z : ℕ) (S : List ℕ) → C (z ∷ S) ≡ C S + 3 * cornersAt w t z S
+  pub C-more : (z : ℕ) (S : List ℕ) → cornersIn (z ∷ S) ≡ cornersIn S + 3 * cornersAt w t z S
   C-more = corners-more w t w-sym w-self t-turn t-self
 
   -- what a placed entry a of z's ring counts: the corner after it, or none where the next waits
@@ -201,7 +201,7 @@ module _ (G : List (List ℕ)) (A : Faces G) where
     every = all-there (length G) S (P .once) (P .small) k
 
     -- each wire has its corner
-    pub total-corners : C S ≡ D S
+    pub total-corners : cornersIn S ≡ dartsIn S
     unfolding corners darts
     total-corners = sym (sum-same _ _ S (λ u i. sum-same (w u) (λ a. sum (t u a) S) S (λ a j. go u a (in-dec a (ring G u)))))
       where
@@ -212,7 +212,7 @@ module _ (G : List (List ℕ)) (A : Faces G) where
             let y = t .0 in
             hit u S (P .once) a y (t .1) (every y (entry-below G A u y (around-in (ring G u) a y (t .1) .1)))
 
-    pub total-darts : D S ≡ sumOf (map length G)
+    pub total-darts : dartsIn S ≡ sumOf (map length G)
     unfolding darts
     total-darts =
         sum-same _ (degree G) S all-of

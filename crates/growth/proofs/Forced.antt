@@ -25,7 +25,7 @@ use Rattle.order.proofs.Growth.{Names}
 use Rattle.growth.specs.Forced.{Bridging, TwoEach}
 use Rattle.growth.proofs.Sums.{sum, flag-yes, flag-no, darts, corners, cornersAt}
 use Rattle.growth.proofs.Walks.{adj-dec, OneWay, ring-leave, leave-run}
-use Rattle.growth.proofs.Counts.{Chosen, w, t, D, C, D-more, C-more, least, leaves-once, leaves-most, total-corners, total-darts}
+use Rattle.growth.proofs.Counts.{Chosen, w, t, dartsIn, cornersIn, D-more, C-more, least, leaves-once, leaves-most, total-corners, total-darts}
 
 -- the first k posts, the latest first
 unfoldable pub back : List ℕ → ℕ → List ℕ
@@ -101,11 +101,11 @@ module _ (G : List (List ℕ)) (vs : List ℕ) (P : Plane G (post vs 1) (post vs
   abbrev c : ℕ → ℕ
   c k = cornersAt (w G A) (t G A) (getD vs k 0) (S k)
 
-  D-next : (k : ℕ) → D G A (S (suc k)) ≡ D G A (S k) + 2 * e k
+  D-next : (k : ℕ) → dartsIn G A (S (suc k)) ≡ dartsIn G A (S k) + 2 * e k
   unfolding back
   D-next k = D-more G A (getD vs k 0) (S k)
 
-  C-next : (k : ℕ) → C G A (S (suc k)) ≡ C G A (S k) + 3 * c k
+  C-next : (k : ℕ) → cornersIn G A (S (suc k)) ≡ cornersIn G A (S k) + 3 * c k
   unfolding back
   C-next k = C-more G A (getD vs k 0) (S k)
 
@@ -127,7 +127,7 @@ module _ (G : List (List ℕ)) (vs : List ℕ) (P : Plane G (post vs 1) (post vs
   unfolding cornersAt sum back
   first-corner = omega (arith, flag-no (adj-dec (around (ring G v2)) v1 v1) (λ f. rings G A .self v1 v2 (A .triangle v2 v1 v1 f)))
 
-  none : (D G A (S 1) ≡ 0) × (C G A (S 1) ≡ 0)
+  none : (dartsIn G A (S 1) ≡ 0) × (cornersIn G A (S 1) ≡ 0)
   unfolding darts corners cornersAt sum back
   none = (D-more G A v1 [], C-more G A v1 [])
 
@@ -140,7 +140,7 @@ module _ (G : List (List ℕ)) (vs : List ℕ) (P : Plane G (post vs 1) (post vs
       leaves-once G A (getD vs k 0) (S k) (single k (omega arith)) (v .0) (v .1)
       (to-back vs k (v .0) (v .3)) (v .2) (new k (v .1) (omega arith) (v .4))
 
-  up : (k : ℕ) → suc (suc k) < length G → 6 * suc (suc k) + 2 * C G A (S (suc (suc k))) ≤ 6 + 3 * D G A (S (suc (suc k)))
+  up : (k : ℕ) → suc (suc k) < length G → 6 * suc (suc k) + 2 * cornersIn G A (S (suc (suc k))) ≤ 6 + 3 * dartsIn G A (S (suc (suc k)))
   up zero l = omega (arith, D-next 1, C-next 1, none .0, none .1, first-wire, first-corner)
   up (suc k) l = omega (arith, up k (omega arith), D-next (suc (suc k)), C-next (suc (suc k)), gap (suc (suc k)) (omega arith) (omega arith))
 
@@ -152,7 +152,7 @@ module _ (G : List (List ℕ)) (vs : List ℕ) (P : Plane G (post vs 1) (post vs
         rw (← (i .2)) (N .below (getD vs (i .0) 0) (place-in vs (i .0) (omega (arith, i .1, N .all))));
   }
 
-  down : (d k : ℕ) → k + d + 1 ≡ length G → 2 ≤ k → 6 + 3 * D G A (S k) ≤ 6 * k + 2 * C G A (S k)
+  down : (d k : ℕ) → k + d + 1 ≡ length G → 2 ≤ k → 6 + 3 * dartsIn G A (S k) ≤ 6 * k + 2 * cornersIn G A (S k)
   down zero k h l =
       let n : length G ≡ suc k = omega arith in
       let full : length G ≤ length (S (length G)) = omega (arith, back-length vs (length G)) in
