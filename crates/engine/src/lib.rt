@@ -6,7 +6,7 @@ ghost use mathlib.Core.List.{_++_};
 ghost use Prim.Native.Nat.{_+_, _*_, _≤_, _<_};
 ghost use lib.ListN.{length, take, drop};
 ghost use Rattle.block.specs.Layout.{limit};
-ghost use Rattle.order.specs.Fitted.{Fitted};
+ghost use Rattle.order.specs.Fitted.{Fitted, Reachable};
 ghost use Rattle.rings.specs.Held.{held};
 ghost use Rattle.placing.specs.Stages.{third, stage};
 ghost use Rattle.placing.specs.Records.{recordOf, entriesOf};
@@ -70,7 +70,7 @@ pub fn reach(
     left: &mut [u16],
     right: &mut [u16],
 )
-    requires { ⌜ Fitted (now at) (now ents) (now vs) (now rank) × (3 ≤ k) × (k ≤ length (now vs))
+    requires { ⌜ Reachable (now at) (now ents) (now vs) (now rank) k
         × Room (length (held (now at) (now ents))) (now ys) (now off) (now cover) (now left) (now right) ⌝ }
     ensures { λ r. ⌜ Holds (now (at .entry)) (now (ents .entry)) (now (vs .entry)) k
         (now (ys .exit)) (now (off .exit)) (now (cover .exit)) (now (left .exit)) (now (right .exit)) ⌝ }
@@ -106,7 +106,7 @@ pub fn draw(
     right: &mut [u16],
     xs: &mut [u16],
 )
-    requires { ⌜ Fitted (now at) (now ents) (now vs) (now rank) × (3 ≤ k) × (k ≤ length (now vs))
+    requires { ⌜ Reachable (now at) (now ents) (now vs) (now rank) k
         × Room (length (held (now at) (now ents))) (now ys) (now off) (now cover) (now left) (now right)
         × (length (held (now at) (now ents)) ≤ length (now xs)) ⌝ }
     ensures { λ r. ⌜ Columned (now (at .entry)) (now (ents .entry)) (now (vs .entry)) k
@@ -131,7 +131,7 @@ pub fn sheet_at(
     xs: &mut [u16],
     buffer: &mut [u16],
 )
-    requires { ⌜ Fitted (now at) (now ents) (now vs) (now rank) × (3 ≤ k) × (k ≤ length (now vs))
+    requires { ⌜ Reachable (now at) (now ents) (now vs) (now rank) k
         × Room (length (held (now at) (now ents))) (now ys) (now off) (now cover) (now left) (now right)
         × (length (held (now at) (now ents)) ≤ length (now xs)) × (2 * k ≤ length (now buffer)) ⌝ }
     ensures { λ r. ⌜ now (buffer .exit) ≡ entriesOf (stage (held (now (at .entry)) (now (ents .entry))) (take k (now (vs .entry))))
@@ -194,7 +194,7 @@ pub fn post_at(
     right: &mut [u16],
     xs: &mut [u16],
 ) -> Record
-    requires { ⌜ Fitted (now at) (now ents) (now vs) (now rank) × (3 ≤ k) × (k ≤ length (now vs))
+    requires { ⌜ Reachable (now at) (now ents) (now vs) (now rank) k
         × Room (length (held (now at) (now ents))) (now ys) (now off) (now cover) (now left) (now right)
         × (length (held (now at) (now ents)) ≤ length (now xs)) × (u < length (held (now at) (now ents))) ⌝ }
     ensures { λ r. ⌜ r ≡ recordOf (stage (held (now (at .entry)) (now (ents .entry))) (take k (now (vs .entry)))) u ⌝ }

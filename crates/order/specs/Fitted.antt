@@ -18,3 +18,9 @@ pub record Fitted (at ents vs rank : List ℕ) : Type 0 where
   pub three : 3 ≤ length vs
   pub most : length (held at ents) ≤ limit
   pub ranked : RankedBelow (length (held at ents)) vs rank
+
+-- and one of its stages
+pub record Reachable (at ents vs rank : List ℕ) (k : ℕ) : Type 0 where
+  pub fitted : Fitted at ents vs rank
+  pub least : 3 ≤ k
+  pub most : k ≤ length vs

@@ -6,7 +6,7 @@ ghost use Rattle.block.specs.Layout.{limit, entries};
 ghost use Rattle.block.specs.Block.{posts, Headed};
 ghost use Rattle.rings.specs.Held.{held};
 ghost use Rattle.placing.specs.Stages.{stage};
-ghost use Rattle.order.specs.Fitted.{Fitted};
+ghost use Rattle.order.specs.Fitted.{Reachable};
 ghost use Rattle.lamp.specs.Lamp.{roomRows, nameRows};
 ghost use Rattle.lamp.specs.Given.{accepted, replyOf, given, checkReply};
 ghost use Rattle.lamp.specs.Loaded.{Wide, Checked};
@@ -120,7 +120,7 @@ fn drawn(
     ask: Ask,
     buffer: &mut [u16],
 ) -> Record
-    requires { ⌜ Fitted (now at) (now ents) (now vs) (now rank) × (3 ≤ k) × (k ≤ length (now vs))
+    requires { ⌜ Reachable (now at) (now ents) (now vs) (now rank) k
         × Within ask k (length (held (now at) (now ents))) (length (now buffer)) ⌝ }
     ensures { λ r. ⌜ Tells ask k (stage (held (now (at .entry)) (now (ents .entry))) (take k (now (vs .entry))))
         (now (buffer .entry)) r (now (buffer .exit)) ⌝ }

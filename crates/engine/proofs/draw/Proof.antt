@@ -13,7 +13,8 @@ columns-requires c κs =
     let lent = reached .before .before .before .before .before .before in
     let shared = lent .before .before .before .before .before in
     let entry = shared .before .before .before .before .before in
-    readable _ _ _ _ (entry .pre .0) _ (entry .pre .1) (entry .pre .2) _ _ _ _ _ (reached .reach .ensures) _ (entry .pre .4)
+    let stage = entry .pre .0 in
+    readable _ _ _ _ (stage .fitted) _ (stage .least) (stage .most) _ _ _ _ _ (reached .reach .ensures) _ (entry .pre .2)
 
 same-length : tie.Need-same-length
 same-length c = search needs
@@ -42,7 +43,8 @@ returns c =
     let lent = reached .before .before .before .before .before .before in
     let shared = lent .before .before .before .before .before in
     let entry = shared .before .before .before .before .before in
-    drawn _ _ _ _ (entry .pre .0) _ (entry .pre .1) (entry .pre .2) _ _ _ _ _ (reached .reach .ensures) _ (entry .pre .4) _ (told .columns .ensures)
+    let stage = entry .pre .0 in
+    drawn _ _ _ _ (stage .fitted) _ (stage .least) (stage .most) _ _ _ _ _ (reached .reach .ensures) _ (entry .pre .2) _ (told .columns .ensures)
     (search needs)
 
 pub draw-spec : {M : Type 1} → statement M

@@ -9,7 +9,7 @@ draw-requires c κs =
     let lent = c .before .before .before .before .before .before in
     let shared = lent .before .before .before .before .before in
     let entry = shared .before .before .before .before .before in
-    (entry .pre .0, entry .pre .1, entry .pre .2, entry .pre .3, entry .pre .4)
+    (entry .pre .0, entry .pre .1, entry .pre .2)
 
 record-at-requires : tie.Need-record-at-requires
 record-at-requires c κs =
@@ -19,7 +19,8 @@ record-at-requires c κs =
     let lent = drawn .before .before .before .before .before .before .before in
     let shared = lent .before .before .before .before .before in
     let entry = shared .before .before .before .before .before in
-    record-ready _ _ _ _ (entry .pre .0) _ (entry .pre .1) (entry .pre .2) _ _ _ _ _ _ (drawn .draw .ensures) _ (entry .pre .5)
+    let stage = entry .pre .0 in
+    record-ready _ _ _ _ (stage .fitted) _ (stage .least) (stage .most) _ _ _ _ _ _ (drawn .draw .ensures) _ (entry .pre .3)
 
 same-length : tie.Need-same-length
 same-length c = search needs
@@ -47,7 +48,8 @@ returns c =
     let lent = drawn .before .before .before .before .before .before .before in
     let shared = lent .before .before .before .before .before in
     let entry = shared .before .before .before .before .before in
-    c .record-at .ensures ∙ record-is _ _ _ _ (entry .pre .0) _ (entry .pre .1) (entry .pre .2) _ _ _ _ _ _ (drawn .draw .ensures) _ (entry .pre .5)
+    let stage = entry .pre .0 in
+    c .record-at .ensures ∙ record-is _ _ _ _ (stage .fitted) _ (stage .least) (stage .most) _ _ _ _ _ _ (drawn .draw .ensures) _ (entry .pre .3)
 
 pub post-at-spec : {M : Type 1} → statement M
 post-at-spec =

@@ -30,7 +30,7 @@ start-requires c κs =
     let read = c .before .before .before .before .before in
     let shared = read .before .before .before .before .before .before .before in
     let entry = shared .before .before .before .before .before in
-    corners-ready _ _ _ _ _ _ _ _ _ (entry .pre .0) (entry .pre .3)
+    corners-ready _ _ _ _ _ _ _ _ _ (entry .pre .0 .fitted) (entry .pre .1)
 
 loop-holds : tie.Need-loop-holds Inv-loop μ-loop
 loop-holds c =
@@ -42,7 +42,8 @@ loop-holds c =
     let begun = started .start .ensures in (
       search needs,
       search needs,
-      third-holds _ _ _ _ _ _ _ _ _ (entry .pre .0) (entry .pre .3) _ _ _ _ _ begun (search needs) (search needs) (search needs) (search needs) (search needs),
+      third-holds _ _ _ _ _ _ _ _ _ (entry .pre .0 .fitted) (entry .pre .1) _ _ _ _ _ begun (search needs) (search needs) (search needs) (search needs)
+          (search needs),
       search needs,
       search needs,
       search needs,
@@ -59,7 +60,7 @@ place-next-requires c κs =
     let read = started .before .before .before .before .before .before in
     let shared = read .before .before .before .before .before .before .before in
     let entry = shared .before .before .before .before .before in
-    (entry .pre .0, turn .loop .inv .0, omega (arith, in-loop .loop-test .taken, entry .pre .2), turn .loop .inv .2)
+    (entry .pre .0 .fitted, turn .loop .inv .0, omega (arith, in-loop .loop-test .taken, entry .pre .0 .most), turn .loop .inv .2)
 
 add-i : tie.Need-add-i Inv-loop μ-loop
 add-i c =
@@ -71,7 +72,7 @@ add-i c =
     let read = started .before .before .before .before .before .before in
     let shared = read .before .before .before .before .before .before .before in
     let entry = shared .before .before .before .before .before in
-    omega (arith, turn .loop .inv .1, entry .pre .2, entry .pre .0 .most)
+    omega (arith, turn .loop .inv .1, entry .pre .0 .most, entry .pre .0 .fitted .most)
 
 loop-less : tie.Need-loop-less Inv-loop μ-loop
 loop-less c = search needs

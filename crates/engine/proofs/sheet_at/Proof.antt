@@ -16,10 +16,10 @@ write-sheet-requires c κs =
     let lent = drawn .before .before .before .before .before .before .before in
     let shared = lent .before .before .before .before .before .before in
     let b = shared .before .before .before .before .before .pre in (
-      omega (arith, b .2),
-      omega (arith, stage-within _ _ _ _ (b .0) _ (b .2)),
-      omega (arith, b .5),
-      λ (j : ℕ) l. names-fit _ _ _ _ (b .0) _ (b .1) (b .2) _ _ _ _ _ _ (drawn .draw .ensures) j (omega (arith, l)),
+      omega (arith, b .0 .most),
+      omega (arith, stage-within _ _ _ _ (b .0 .fitted) _ (b .0 .most)),
+      omega (arith, b .3),
+      λ (j : ℕ) l. names-fit _ _ _ _ (b .0 .fitted) _ (b .0 .least) (b .0 .most) _ _ _ _ _ _ (drawn .draw .ensures) j (omega (arith, l)),
     )
 
 same-length : tie.Need-same-length
@@ -51,7 +51,8 @@ returns c =
     let lent = drawn .before .before .before .before .before .before .before in
     let shared = lent .before .before .before .before .before .before in
     let entry = shared .before .before .before .before .before in
-    sheet-is _ _ _ _ (entry .pre .0) _ (entry .pre .1) (entry .pre .2) _ _ _ _ _ _ (drawn .draw .ensures) _ _ (c .before .before .write-sheet .ensures)
+    let stage = entry .pre .0 in
+    sheet-is _ _ _ _ (stage .fitted) _ (stage .least) (stage .most) _ _ _ _ _ _ (drawn .draw .ensures) _ _ (c .before .before .write-sheet .ensures)
 
 pub sheet-at-spec : {M : Type 1} → statement M
 sheet-at-spec =

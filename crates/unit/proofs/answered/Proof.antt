@@ -65,7 +65,8 @@ drawn-requires c κs =
     let is = length-is s _ (entry .pre .0) _ _ _ _ R room _ (counted .ensures) in
     let E = to-engine s _ (entry .pre .0) _ _ _ _ R room _ (counted .ensures) in
     let many = many-is s _ (entry .pre .0) _ _ _ _ R room _ (counted .ensures) in
-    (E, in-range .0, omega (arith, in-range .1, is, R .headed .is), within ask s k (length b) _ (many ∙ R .headed .is) none)
+    let asked = within ask s k (length b) _ (many ∙ R .headed .is) none in
+    (record { fitted = E; least = in-range .0; most = omega (arith, in-range .1, is, R .headed .is) }, asked)
 
 mul-t15 : tie.Need-mul-t15
 mul-t15 c =

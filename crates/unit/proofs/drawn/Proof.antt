@@ -48,10 +48,14 @@ sheet-at-requires c κs =
     let asked = c .before .before .before .before .before .before .before in
     let made = asked .before .before .before .before .before .before .before in
     let entry = made .before .before .before .before .before .before in
-    let fit = within-sheet (entry .args .ask) (entry .args .k) (asked .enum-told .given .1) _ _ (entry .pre .3) in
-    let least = entry .pre .1 in
-    let most = entry .pre .2 in
-    (entry .pre .0, omega (arith, least), omega (arith, least, most), search needs, search needs, omega (arith, least, fit))
+    let fit = within-sheet (entry .args .ask) (entry .args .k) (asked .enum-told .given .1) _ _ (entry .pre .1) in
+    let least = entry .pre .0 .least in
+    let most = entry .pre .0 .most in (
+      record { fitted = entry .pre .0 .fitted; least = omega (arith, least); most = omega (arith, least, most) },
+      search needs,
+      search needs,
+      omega (arith, least, fit),
+    )
 
 no-record-requires : tie.Need-no-record-requires
 no-record-requires c κs = search needs
@@ -64,8 +68,8 @@ cast-post-at c =
     let asked = c .before in
     let made = asked .before .before .before .before .before .before .before in
     let entry = made .before .before .before .before .before .before in
-    let fit = within-post (entry .args .ask) (entry .args .k) _ (asked .ask .given .1) _ _ (entry .pre .3) in
-    omega (arith, fit, entry .pre .0 .most)
+    let fit = within-post (entry .args .ask) (entry .args .k) _ (asked .ask .given .1) _ _ (entry .pre .1) in
+    omega (arith, fit, entry .pre .0 .fitted .most)
 
 slice-aggregate-post-at : tie.Need-slice-aggregate-post-at
 slice-aggregate-post-at c = search needs
@@ -90,8 +94,8 @@ post-at-requires c κs =
     let asked = c .before .before .before .before .before .before .before in
     let made = asked .before .before .before .before .before .before .before in
     let entry = made .before .before .before .before .before .before in
-    let fit = within-post (entry .args .ask) (entry .args .k) _ (asked .ask .given .1) _ _ (entry .pre .3) in
-    (entry .pre .0, entry .pre .1, entry .pre .2, search needs, search needs, fit)
+    let fit = within-post (entry .args .ask) (entry .args .k) _ (asked .ask .given .1) _ _ (entry .pre .1) in
+    (entry .pre .0, search needs, search needs, fit)
 
 same-length : tie.Need-same-length
 same-length c = search needs
