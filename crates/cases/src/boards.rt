@@ -1,6 +1,13 @@
-// The blocks of the paper's cases, byte by byte.
+// The blocks of the paper's cases, byte by byte: the very ones that the table of starred cases speaks of.
+ghost use mathlib.Core.Path.{_≡_};
+ghost use mathlib.Core.List.{[], _∷_};
+ghost use Rattle.rings.specs.Boards.{orderD};
+ghost use Rattle.unit.specs.Starred.{T, D};
+
 // Board T, sum 236.
-pub fn board_t() -> [u8; 33] {
+pub fn board_t() -> [u8; 33]
+    ensures { λ r. ⌜ r ≡ T 236 ⌝ }
+{
     [
         80,
         71,
@@ -39,7 +46,9 @@ pub fn board_t() -> [u8; 33] {
 }
 
 // Board D, sum 285.
-pub fn board_d() -> [u8; 65] {
+pub fn board_d() -> [u8; 65]
+    ensures { λ r. ⌜ r ≡ D orderD 285 ⌝ }
+{
     [
         80,
         71,
@@ -110,7 +119,9 @@ pub fn board_d() -> [u8; 65] {
 }
 
 // Case 5: board D with order 0 1 3 2 4, which has the same sum.
-pub fn autumn() -> [u8; 65] {
+pub fn autumn() -> [u8; 65]
+    ensures { λ r. ⌜ r ≡ D (0 ∷ 1 ∷ 3 ∷ 2 ∷ 4 ∷ []) 285 ⌝ }
+{
     [
         80,
         71,
@@ -181,7 +192,9 @@ pub fn autumn() -> [u8; 65] {
 }
 
 // Case 11: board D with order 0 1 2 2 4 and the sum 284.
-pub fn twice() -> [u8; 65] {
+pub fn twice() -> [u8; 65]
+    ensures { λ r. ⌜ r ≡ D (0 ∷ 1 ∷ 2 ∷ 2 ∷ 4 ∷ []) 284 ⌝ }
+{
     [
         80,
         71,
