@@ -1,0 +1,3 @@
+pub mod Letters
+pub mod Filling
+pub mod Said
