@@ -44,6 +44,14 @@ pub write-last : (f : Filling) (t : List ℕ) (c : ℕ) → put (write f t) c �
 unfolding write
 write-last f t c = write-more f t (c ∷ [])
 
+-- two steps are one: a, and then b
+pub write-then : (f : Filling) {g h : Filling} (a b : List ℕ) → g ≡ write f a → h ≡ write g b → h ≡ write f (a ++ b)
+write-then f a b e d = d ∙ ap (λ (z : Filling). write z b) e ∙ write-more f a b
+
+pub put-written : (f : Filling) {g : Filling} (c : ℕ) → g ≡ put f c → g ≡ write f (c ∷ [])
+unfolding write
+put-written f c e = e
+
 pub write-length : (f : Filling) (t : List ℕ) → length (write f t .1) ≡ length (f .1)
 unfolding write
 write-length f [] = refl

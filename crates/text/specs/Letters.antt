@@ -20,7 +20,7 @@ newline = 10 ∷ []
 abbrev pub width : ℕ → ℕ
 width n = first 1 19 (λ k. ltb n (10 ^ k))
 
--- a number in decimal, with no zero in front
+-- such a number in decimal, with no zero in front
 unfoldable pub decimal : ℕ → List ℕ
 decimal n = digits 10 (width n) n
 
@@ -38,7 +38,7 @@ unfoldable pub allDigits : List ℕ → Bool
 allDigits [] = true
 allDigits (c ∷ w) = isDigit c && allDigits w
 
--- what the digits of a word say after others that said v
+-- what the digits of a word say after others that said v; asked only of words of digits
 unfoldable pub valueAfter : ℕ → List ℕ → ℕ
 valueAfter v [] = v
 valueAfter v (c ∷ w) = valueAfter (v * 10 + c - 48) w
