@@ -5,3 +5,4 @@ pub mod Loads
 pub mod BoardRows
 pub mod Accepts
 pub mod Retired
+pub mod ReadBack
