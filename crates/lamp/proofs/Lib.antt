@@ -6,3 +6,4 @@ pub mod BoardRows
 pub mod Accepts
 pub mod Retired
 pub mod ReadBack
+pub mod Places
