@@ -12,7 +12,7 @@ use Rattle.lamp.specs.declared.Refusal.{Refusal}
 use Rattle.lamp.specs.declared.Refusal.the-variants.{Short, Mark, Version, Posts, Length, Sum, Order, Degrees, Ring, Triangle, Outer, Few}
 use Rattle.lamp.specs.declared.Refusal.the-variants.{Broken, Stage, Room, Name}
 
--- the refusals that may be meant by a place
+-- every refusal; the ones that have a place, with this one
 unfoldable pub refusalsAt : ℕ → List Refusal
 refusalsAt place =
     Short

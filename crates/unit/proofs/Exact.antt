@@ -41,8 +41,8 @@ pub exact-halves : Exact thePaper
 exact-halves =
     record {
       ends = λ s n k e h i. over s n k e h i .0;
-      left = λ s n k e h i. over s n k e h i .1;
-      right = λ s n k e h i. over s n k e h i .2;
+      left-stands = λ s n k e h i. over s n k e h i .1;
+      right-stands = λ s n k e h i. over s n k e h i .2;
       halves = halves;
       grid = λ s n k e h i. omega arith;
       layout = λ s n e. omega (arith, accepted-posts s n e, accepted-framed s n e .posts-least);

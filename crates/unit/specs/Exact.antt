@@ -37,11 +37,11 @@ pub record Exact (U : Services) : Type 0 where
   -- for each accepted block of n posts and each k from 3 to n-1: the run has two ends, posts already standing, so that the run without its ends
   -- is its length less 2
   pub ends : (s : List ℕ) (n k : ℕ) → U .check s ≡ accepted n → 3 ≤ k → k < n → 2 ≤ length (newRun s k)
-  pub left : (s : List ℕ) (n k : ℕ) → U .check s ≡ accepted n → 3 ≤ k → k < n → Placed s k (leftEnd s k)
-  pub right : (s : List ℕ) (n k : ℕ) → U .check s ≡ accepted n → 3 ≤ k → k < n → Placed s k (rightEnd s k)
+  pub left-stands : (s : List ℕ) (n k : ℕ) → U .check s ≡ accepted n → 3 ≤ k → k < n → Placed s k (leftEnd s k)
+  pub right-stands : (s : List ℕ) (n k : ℕ) → U .check s ≡ accepted n → 3 ≤ k → k < n → Placed s k (rightEnd s k)
   -- where its ends and the new post stand at stage k+1
   pub halves : (s : List ℕ) (n k : ℕ) → U .check s ≡ accepted n → 3 ≤ k → k < n
       → ExactHalves (places s (k + 1)) (leftEnd s k) (rightEnd s k) (newPost s k)
-  -- the grid's 2k - 4 and k - 2, and the layout's 6n - 12 and 16n - 15
+  -- the grid's 2k - 4 and k - 2, the layout's 6n - 12 and 16n - 15, and the n - 1 and n - 2 of degrees and positions
   pub grid : (s : List ℕ) (n k : ℕ) → U .check s ≡ accepted n → 3 ≤ k → k ≤ n → (4 ≤ 2 * k) × (2 ≤ k)
-  pub layout : (s : List ℕ) (n : ℕ) → U .check s ≡ accepted n → (12 ≤ 6 * n) × (15 ≤ 16 * n)
+  pub layout : (s : List ℕ) (n : ℕ) → U .check s ≡ accepted n → (12 ≤ 6 * n) × (15 ≤ 16 * n) × (2 ≤ n)
