@@ -5,3 +5,5 @@ pub mod Loads
 pub mod BoardRows
 pub mod Accepts
 pub mod Retired
+pub mod ReadBack
+pub mod Places

@@ -1,16 +1,17 @@
 -- Every stage of a list that fits so far is drawn; and what follows for each stage and each step.
 use Prim.Native.Nat.{ℕ, _+_, _*_, _-_, _%_, _≤_, _<_}
-use mathlib.Core.Path.{_≡_, ap, sym, _∙_}
+use mathlib.Core.Path.{_≡_, refl, ap, sym, _∙_, subst⁻¹}
 use mathlib.Core.Logic.{_⊎_, inl, inr, _≢_}
 use mathlib.Core.List.{List, [], _∷_, _++_}
 use native.Mathlib.Omega.{arith}
-use lib.ListN.{length, take}
+use lib.ListN.{length, take, length-append}
 use lib.Seq.{length-take-le}
-use Rattle.words.specs.Lists.{In}
+use Rattle.words.specs.Lists.{In, lastOf}
 use Rattle.words.specs.Positions.{post}
-use Rattle.words.proofs.Lists.{Once}
+use Rattle.words.proofs.Lists.{Once, in-right, last-append}
 use Rattle.rings.specs.Rings.{ring}
 use Rattle.rings.specs.Plane.{Plane, Wire}
+use Rattle.order.specs.Order.{run}
 use Rattle.order.specs.Fitting.{FitsSoFar}
 use Rattle.order.proofs.Fitting.{fits-faces, fits-once}
 use Rattle.placing.specs.Stages.{Stage, place, stage}
@@ -142,3 +143,21 @@ module _ (G : List (List ℕ)) (vn : ℕ) (vs : List ℕ) (P : Plane G (post vs 
         let b : In u (stage G (take k vs) .placed) = rw (placed-at k h (omega arith)) a in
         let d = one-step-at .does in
         (d .height u b, d .never-left u b, d .at-most-two u b)
+
+    -- the new post's run w has two ends, both placed before, and the step is one over them: what is halved is exact
+    pub exact-at : (w : List ℕ) → w ≡ run G (take k vs) (post vs (k + 1)) → (2 ≤ length w) × In (post w 1) (take k vs) × In (lastOf 0 w) (take k vs)
+        × OneStep (stage G (take k vs)) (stage G (take (k + 1) vs)) (post w 1) (lastOf 0 w) (post vs (k + 1))
+    exact-at w e =
+        let A = one-step-at in
+        let S = A .step in
+        let here = placed-at k h (omega arith) in
+        let is : w ≡ S .p ∷ (S .M ++ S .q ∷ []) = e ∙ ap (λ (l : List ℕ). run G l (post vs (k + 1))) (sym here) ∙ S .run-is in
+        let all = contour-placed-at k h (omega arith) in
+        let p = in-right (S .p) (S .X) (S .p ∷ (S .M ++ S .q ∷ S .Y)) (inl refl) in
+        let q = in-right (S .q) (S .X) (S .p ∷ (S .M ++ S .q ∷ S .Y)) (inr (in-right (S .q) (S .M) (S .q ∷ S .Y) (inl refl))) in
+        rw (is, last-append (S .p) (S .M) (S .q) []) (
+          omega (arith, length-append (S .M) (S .q ∷ [])),
+          all (S .p) (subst⁻¹ (In (S .p)) (S .before) p),
+          all (S .q) (subst⁻¹ (In (S .q)) (S .before) q),
+          A .does,
+        )

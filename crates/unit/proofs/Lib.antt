@@ -4,3 +4,5 @@ pub mod Demanded
 pub mod Calls
 pub mod Written
 pub mod Mirror
+pub mod Exact
+pub mod Unique

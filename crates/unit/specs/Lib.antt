@@ -2,4 +2,6 @@ pub mod Replies
 pub mod Asked
 pub mod Demands
 pub mod Mirror
+pub mod Exact
+pub mod Unique
 pub mod Starred
