@@ -2,95 +2,137 @@
 // empty input.
 mod boards;
 
+ghost use mathlib.Core.Path.{_≡_};
+ghost use lib.ListN.{length};
 use block::Block;
+
+// Room for the longest line of a case, and more.
+const LINE: usize = 200;
+
+fn no_line() -> [u8; LINE]
+    ensures { λ r. ⌜ 200 ≡ length r ⌝ }
+{
+    [0u8; LINE]
+}
+
+// The first n bytes of a text.
+fn print(t: &[u8], n: usize) {
+    if n <= t.len() {
+        show::print(&t[..n]);
+    }
+}
+
+fn check(s: &[u8]) {
+    let mut line = no_line();
+    let n = show::check(s, &mut line);
+    print(&line, n);
+}
+
+fn check_front(s: &[u8], n: usize) {
+    if n <= s.len() {
+        check(&s[..n]);
+    }
+}
+
+fn reply_of_sheet(s: &[u8], k: usize, buffer: &mut [u16]) {
+    let mut line = no_line();
+    let n = show::reply_of_sheet(s, k, buffer, &mut line);
+    print(&line, n);
+}
+
+fn reply_of_post(s: &[u8], k: usize, u: usize) {
+    let mut line = no_line();
+    let n = show::reply_of_post(s, k, u, &mut line);
+    print(&line, n);
+}
 
 fn sheets() {
     let t = boards::board_t();
     let d = boards::board_d();
     let mut six = [9u16; 7];
-    show::text(b"1. T, stage 3: ");
-    show::reply_of_sheet(&t, 3, &mut six);
+    show::print(b"1. T, stage 3: ");
+    reply_of_sheet(&t, 3, &mut six);
     let mut third = [9u16; 7];
-    show::text(b"2. D, stage 3: ");
-    show::reply_of_sheet(&d, 3, &mut third);
+    show::print(b"2. D, stage 3: ");
+    reply_of_sheet(&d, 3, &mut third);
     let mut fourth = [9u16; 9];
-    show::text(b"3. D, stage 4: ");
-    show::reply_of_sheet(&d, 4, &mut fourth);
+    show::print(b"3. D, stage 4: ");
+    reply_of_sheet(&d, 4, &mut fourth);
     let mut fifth = [9u16; 11];
-    show::text(b"4. D, stage 5: ");
-    show::reply_of_sheet(&d, 5, &mut fifth);
+    show::print(b"4. D, stage 5: ");
+    reply_of_sheet(&d, 5, &mut fifth);
 }
 
 fn autumn_block() {
     let d = boards::autumn();
-    show::text(b"5. D with order 0 1 3 2 4: ");
-    show::check(&d);
+    show::print(b"5. D with order 0 1 3 2 4: ");
+    check(&d);
 }
 
 fn rooms() {
     let d = boards::board_d();
     let mut b = [9u16; 12];
-    show::text(b"6. D, stage 2: ");
-    show::reply_of_sheet(&d, 2, &mut b);
-    show::text(b"6. D, stage 6: ");
-    show::reply_of_sheet(&d, 6, &mut b);
+    show::print(b"6. D, stage 2: ");
+    reply_of_sheet(&d, 2, &mut b);
+    show::print(b"6. D, stage 6: ");
+    reply_of_sheet(&d, 6, &mut b);
     let mut nine = [9u16; 9];
-    show::text(b"6. D, stage 5 with 9 entries: ");
-    show::reply_of_sheet(&d, 5, &mut nine);
+    show::print(b"6. D, stage 5 with 9 entries: ");
+    reply_of_sheet(&d, 5, &mut nine);
     let mut ten = [9u16; 10];
-    show::text(b"6. D, stage 5 with 10 entries: ");
-    show::reply_of_sheet(&d, 5, &mut ten);
+    show::print(b"6. D, stage 5 with 10 entries: ");
+    reply_of_sheet(&d, 5, &mut ten);
 }
 
 fn records() {
     let d = boards::board_d();
-    show::text(b"7. D, post 2 at stage 3: ");
-    show::reply_of_post(&d, 3, 2);
-    show::text(b"7. D, post 2 at stage 4: ");
-    show::reply_of_post(&d, 4, 2);
-    show::text(b"8. D, post 4 at stage 4: ");
-    show::reply_of_post(&d, 4, 4);
-    show::text(b"8. D, name 5 at stage 4: ");
-    show::reply_of_post(&d, 4, 5);
+    show::print(b"7. D, post 2 at stage 3: ");
+    reply_of_post(&d, 3, 2);
+    show::print(b"7. D, post 2 at stage 4: ");
+    reply_of_post(&d, 4, 2);
+    show::print(b"8. D, post 4 at stage 4: ");
+    reply_of_post(&d, 4, 4);
+    show::print(b"8. D, name 5 at stage 4: ");
+    reply_of_post(&d, 4, 5);
 }
 
 fn sums() {
     let mut t = boards::board_t();
-    show::text(b"9. T with its last byte removed: ");
-    show::check_front(&t, 32);
+    show::print(b"9. T with its last byte removed: ");
+    check_front(&t, 32);
     t[32] = 237;
-    show::text(b"9. T with sum 237: ");
-    show::check(&t);
+    show::print(b"9. T with sum 237: ");
+    check(&t);
 }
 
 fn heads() {
     let mut d = boards::board_d();
-    show::text(b"10. an empty block: ");
-    show::check_front(&d, 0);
-    show::text(b"10. a block of 6 bytes: ");
-    show::check_front(&d, 6);
+    show::print(b"10. an empty block: ");
+    check_front(&d, 0);
+    show::print(b"10. a block of 6 bytes: ");
+    check_front(&d, 6);
     d[6] = 2;
-    show::text(b"10. n = 2: ");
-    show::check(&d);
+    show::print(b"10. n = 2: ");
+    check(&d);
     let many = Block::LIMIT + 1;
     d[5] = (many / 256 % 256) as u8;
     d[6] = (many % 256) as u8;
-    show::text(b"10. n one above the limit: ");
-    show::check(&d);
+    show::print(b"10. n one above the limit: ");
+    check(&d);
     let e = boards::twice();
-    show::text(b"11. D with order 0 1 2 2 4: ");
-    show::check(&e);
+    show::print(b"11. D with order 0 1 2 2 4: ");
+    check(&e);
 }
 
 fn programs() {
     let t = boards::board_t();
     let d = boards::autumn();
-    show::text(b"the program on T:\n");
-    show::last_sheet(&t);
-    show::text(b"the program on case 5:\n");
-    show::last_sheet(&d);
-    show::text(b"the program on an empty input:\n");
-    show::last_sheet(&d[..0]);
+    show::print(b"the program on T:\n");
+    show::print_last(&t);
+    show::print(b"the program on case 5:\n");
+    show::print_last(&d);
+    show::print(b"the program on an empty input:\n");
+    show::print_last(&d[..0]);
 }
 
 fn main() {

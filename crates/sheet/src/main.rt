@@ -2,5 +2,5 @@
 fn main() {
     let mut block = show::no_bytes();
     let n = io::read_full(0, &mut block);
-    show::last_sheet(&block[..n]);
+    show::print_last(&block[..n]);
 }

@@ -1,1 +1,4 @@
 pub mod Sheets
+pub mod Naming
+pub mod Lengths
+pub mod Replying

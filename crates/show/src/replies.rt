@@ -1,7 +1,7 @@
 // A service's whole reply as a line of text, for the worked cases.
 ghost use mathlib.Core.Path.{_≡_};
 ghost use Rattle.lamp.specs.Given.{replyOf, accepted};
-ghost use Rattle.unit.specs.Replies.{bufferAfter};
+ghost use Rattle.unit.specs.Replies.{bufferAfter, postedOf};
 ghost use Rattle.text.specs.Filling.{filling, write, filledWith};
 ghost use Rattle.show.specs.Replied.{answerText, checkLine, spacedAll, sheetReplyLine, standingText, recordText, postReplyLine};
 use crate::refusal;
@@ -71,7 +71,7 @@ fn standing(s: Standing, out: &mut [u8], at: usize) -> usize
     }
 }
 
-fn record(r: Record, out: &mut [u8]) -> usize
+fn placed(r: Record, out: &mut [u8]) -> usize
     ensures { λ e. ⌜ filling e (now (out .exit)) ≡ write (filling 0 (now (out .entry))) (recordText (accepted r)) ⌝ }
 {
     let word = text::say(out, 0, b"at");
@@ -81,13 +81,19 @@ fn record(r: Record, out: &mut [u8]) -> usize
     standing(s, out, height)
 }
 
+fn posted(p: Posted, out: &mut [u8]) -> usize
+    ensures { λ e. ⌜ filling e (now (out .exit)) ≡ write (filling 0 (now (out .entry))) (recordText (postedOf p)) ⌝ }
+{
+    match p {
+        Posted::Refused(r) => refusal(r, out, 0),
+        Posted::Accepted(r) => placed(r, out),
+    }
+}
+
 // What post replies.
 pub fn reply_of_post(s: &[u8], k: usize, u: usize, out: &mut [u8]) -> usize
     ensures { λ e. ⌜ filling e (now (out .exit)) ≡ filledWith (postReplyLine (now (s .entry)) k u) (now (out .entry)) ⌝ }
 {
-    let end = match unit::post(s, k, u) {
-        Posted::Refused(r) => refusal(r, out, 0),
-        Posted::Accepted(r) => record(r, out),
-    };
+    let end = posted(unit::post(s, k, u), out);
     text::put(out, end, b'\n')
 }

@@ -85,3 +85,7 @@ behind d (x ∷ rest) (c ∷ t) =
 
 pub written : (b t : List ℕ) → write (filling 0 b) t ≡ filledWith t b
 written b t = behind [] b t ∙ rw (zero-add (length t), zero-add (length b)) refl
+
+-- what was written from the start is this text
+pub fills : (b t : List ℕ) {g : Filling} {u : List ℕ} → g ≡ write (filling 0 b) t → u ≡ t → g ≡ filledWith u b
+fills b t e d = e ∙ written b t ∙ ap (λ (z : List ℕ). filledWith z b) (sym d)

@@ -33,13 +33,13 @@ use Rattle.unit.proofs.Demanded.{second-demand}
 
 -- entries two by two
 module _ (x y : ℕ → ℕ) where
-  pairs-x : (l rest : List ℕ) (i : ℕ) → i < length l → getD (flatMap (λ u. x u ∷ y u ∷ []) l ++ rest) (2 * i) 0 ≡ x (getD l i 0)
+  pub pairs-x : (l rest : List ℕ) (i : ℕ) → i < length l → getD (flatMap (λ u. x u ∷ y u ∷ []) l ++ rest) (2 * i) 0 ≡ x (getD l i 0)
   unfolding flatMap
   pairs-x [] rest i h = absurd (omega arith)
   pairs-x (u ∷ l) rest zero h = refl
   pairs-x (u ∷ l) rest (suc i) h = let e : 2 * suc i ≡ suc (suc (2 * i)) = omega arith in rw e (pairs-x l rest i (omega arith))
 
-  pairs-y : (l rest : List ℕ) (i : ℕ) → i < length l → getD (flatMap (λ u. x u ∷ y u ∷ []) l ++ rest) (2 * i + 1) 0 ≡ y (getD l i 0)
+  pub pairs-y : (l rest : List ℕ) (i : ℕ) → i < length l → getD (flatMap (λ u. x u ∷ y u ∷ []) l ++ rest) (2 * i + 1) 0 ≡ y (getD l i 0)
   unfolding flatMap
   pairs-y [] rest i h = absurd (omega arith)
   pairs-y (u ∷ l) rest zero h = refl
@@ -106,7 +106,7 @@ module _ (s : List ℕ) (k : ℕ) (b : List ℕ) (a : Accepted (sheetReply s k b
   sheet-most = ltb-false (posts s) k (inside .1)
 
   -- the buffer's entries are where the posts stand
-  written : thePaper .buffer s k b ≡ flatMap (λ u. stageAt k s .x u ∷ stageAt k s .y u ∷ []) (take k (order s)) ++ drop (2 * k) b
+  pub written : thePaper .buffer s k b ≡ flatMap (λ u. stageAt k s .x u ∷ stageAt k s .y u ∷ []) (take k (order s)) ++ drop (2 * k) b
   unfolding entriesOf stageAt
   written =
       second-demand .stands s k b a

@@ -1,52 +1,59 @@
 use borrow.Author.Needs.{needs}
 use Rattle.show.proofs.last_sheet.Statement.{statement}
 use Rattle.show.proofs.last_sheet.Tie as tie
-use Rattle.show.proofs.last_sheet.Reads as reads
-use Rattle.show.proofs.last_sheet.Lts as lts
-use Rattle.show.proofs.refusal_line.Reads as refusal-line-reads
-use Rattle.show.proofs.sheet.Reads as sheet-reads
-use Rattle.unit.proofs.check.Reads as check-reads
-use Rattle.words.proofs.number.Reads as number-reads
+use Prim.Native.Nat.{ℕ}
+use mathlib.Core.Path.{sym, ap, _∙_}
+use Rattle.block.specs.Block.{posts}
+use Rattle.lamp.specs.Given.{replyOf}
+use Rattle.lamp.proofs.Accepts.{accepted-posts}
+use Rattle.text.specs.Filling.{filledWith}
+use Rattle.text.proofs.Writing.{fills}
+use Rattle.show.specs.Shown.{sheetText, lastText}
+use Rattle.show.proofs.Sheets.{check-refuses}
 
--- src/lib.rt:121:11
 check-requires : tie.Need-check-requires
 check-requires c κs = search needs
 
--- src/lib.rt:122:25
 enum-known-r : tie.Need-enum-known-r
 enum-known-r c = search needs
 
--- src/lib.rt:122:31
 refusal-line-requires : tie.Need-refusal-line-requires
 refusal-line-requires c κs = search needs
 
--- src/lib.rt:123:26
 enum-known-n : tie.Need-enum-known-n
 enum-known-n c = search needs
 
--- src/lib.rt:123:41
 number-requires : tie.Need-number-requires
 number-requires c κs = search needs
 
--- src/lib.rt:123:32
 sheet-requires : tie.Need-sheet-requires
 sheet-requires c κs = search needs
 
--- src/lib.rt:118:1
 same-length : tie.Need-same-length
 same-length c = search needs
 
--- src/lib.rt:118:1
 returns : tie.Need-returns
-returns c = ?
+unfolding lastText
+returns c =
+    let told = c .before .before .before .before .before in
+    let check = told .before .before in
+    let a = check .before .before .before .args in
+    let refuses = sym (check .check .ensures) ∙ ap replyOf (told .r .given .1) in
+    fills (a .out .now) _ (c .before .before .refusal-line .ensures) (check-refuses (a .s .now) (posts (a .s .now)) _ _ refuses)
 
--- src/lib.rt:118:1
 same-length-2 : tie.Need-same-length-2
 same-length-2 c = search needs
 
--- src/lib.rt:118:1
 returns-2 : tie.Need-returns-2
-returns-2 c = ?
+unfolding lastText
+returns-2 c =
+    let end = c .before .before in
+    let told = end .before .before .before .before in
+    let check = told .before .before in
+    let a = check .before .before .before .args in
+    let accepts = sym (check .check .ensures) ∙ ap replyOf (told .n .given .1) in
+    let n = end .before .before .number .ensures .0 ∙ accepted-posts (a .s .now) _ accepts in
+    end .sheet .ensures ∙ ap (λ (k : ℕ). filledWith (sheetText (a .s .now) k) (a .out .now)) n
 
 pub last-sheet-spec : {M : Type 1} → statement M
 last-sheet-spec =

@@ -1,37 +1,38 @@
 use borrow.Author.Needs.{needs}
 use Rattle.show.proofs.print_last.Statement.{statement}
 use Rattle.show.proofs.print_last.Tie as tie
-use Rattle.show.proofs.print_last.Reads as reads
-use Rattle.show.proofs.print_last.Lts as lts
-use Rattle.show.proofs.hand_last.Reads as hand-last-reads
-use Rattle.show.proofs.last_sheet.Reads as last-sheet-reads
-use Rattle.show.proofs.no_text.Reads as no-text-reads
+use native.Mathlib.Omega.{arith}
+use Prim.Native.Nat.{_≤_}
+use mathlib.Core.Path.{_≡_, sym}
+use lib.ListN.{length, take}
+use lib.Seq.{length-take-le}
+use Rattle.show.specs.Shown.{lastText}
+use Rattle.show.proofs.Lengths.{whole, last-length}
 
--- src/lib.rt:178:19
 no-text-requires : tie.Need-no-text-requires
 no-text-requires c κs = search needs
 
--- src/lib.rt:179:27
 slice-aggregate-last-sheet : tie.Need-slice-aggregate-last-sheet
 slice-aggregate-last-sheet c = search needs
 
--- src/lib.rt:179:9
 last-sheet-requires : tie.Need-last-sheet-requires
 last-sheet-requires c κs = search needs
 
--- src/lib.rt:180:18
+-- the buffer holds the whole text
+all : (c : tie.After-last-sheet) → (c .last-sheet .result ≤ length (c .last-sheet .last .1 .0)) × (take (c .last-sheet .result) (c .last-sheet .last .1 .0) ≡ lastText (c .before .before .before .before .args .s .now))
+all c =
+    let s = c .before .before .before .before .args .s .now in
+    whole (lastText s) (c .before .before .no-text .result) _ _ (omega (arith, last-length s, c .before .before .no-text .ensures)) (c .last-sheet .ensures)
+
 array-share-prefix-out : tie.Need-array-share-prefix-out
-array-share-prefix-out c = ?
+array-share-prefix-out c = all (c .before) .0
 
--- src/lib.rt:180:18
 slice-aggregate-hand-last : tie.Need-slice-aggregate-hand-last
-slice-aggregate-hand-last c = ?
+slice-aggregate-hand-last c = sym (length-take-le _ _ (all (c .before .before) .0))
 
--- src/lib.rt:180:5
 hand-last-requires : tie.Need-hand-last-requires
-hand-last-requires c κs = ?
+hand-last-requires c κs = all (c .before .before) .1
 
--- src/lib.rt:177:1
 returns : tie.Need-returns
 returns c = search needs
 

@@ -1,37 +1,40 @@
 use borrow.Author.Needs.{needs}
 use Rattle.show.proofs.print_stage.Statement.{statement}
 use Rattle.show.proofs.print_stage.Tie as tie
-use Rattle.show.proofs.print_stage.Reads as reads
-use Rattle.show.proofs.print_stage.Lts as lts
-use Rattle.show.proofs.hand_stage.Reads as hand-stage-reads
-use Rattle.show.proofs.no_text.Reads as no-text-reads
-use Rattle.show.proofs.stage.Reads as stage-reads
+use native.Mathlib.Omega.{arith}
+use Prim.Native.Nat.{_≤_}
+use mathlib.Core.Path.{_≡_, sym}
+use lib.ListN.{length, take}
+use lib.Seq.{length-take-le}
+use Rattle.show.specs.Shown.{stageText}
+use Rattle.show.proofs.Lengths.{whole, stage-length}
 
--- src/lib.rt:185:19
 no-text-requires : tie.Need-no-text-requires
 no-text-requires c κs = search needs
 
--- src/lib.rt:186:28
 slice-aggregate-stage : tie.Need-slice-aggregate-stage
 slice-aggregate-stage c = search needs
 
--- src/lib.rt:186:9
 stage-requires : tie.Need-stage-requires
 stage-requires c κs = search needs
 
--- src/lib.rt:187:25
+-- the buffer holds the whole text
+all : (c : tie.After-stage) → (c .stage .result ≤ length (c .stage .last .1 .1 .0)) × (take (c .stage .result) (c .stage .last .1 .1 .0) ≡ stageText (c .before .before .before .before .before .args .s .now) (c .before .before .before .before .before .args .word .now))
+all c =
+    let a = c .before .before .before .before .before .args in
+    let text = stageText (a .s .now) (a .word .now) in
+    let made = c .before .before .no-text in
+    whole text (made .result) _ _ (omega (arith, stage-length (a .s .now) (a .word .now), made .ensures)) (c .stage .ensures)
+
 array-share-prefix-out : tie.Need-array-share-prefix-out
-array-share-prefix-out c = ?
+array-share-prefix-out c = all (c .before) .0
 
--- src/lib.rt:187:25
 slice-aggregate-hand-stage : tie.Need-slice-aggregate-hand-stage
-slice-aggregate-hand-stage c = ?
+slice-aggregate-hand-stage c = sym (length-take-le _ _ (all (c .before .before) .0))
 
--- src/lib.rt:187:5
 hand-stage-requires : tie.Need-hand-stage-requires
-hand-stage-requires c κs = ?
+hand-stage-requires c κs = all (c .before .before) .1
 
--- src/lib.rt:184:1
 returns : tie.Need-returns
 returns c = search needs
 

@@ -1,70 +1,80 @@
 use borrow.Author.Needs.{needs}
 use Rattle.show.proofs.sheet.Statement.{statement}
 use Rattle.show.proofs.sheet.Tie as tie
-use Rattle.show.proofs.sheet.Reads as reads
-use Rattle.show.proofs.sheet.Lts as lts
-use Rattle.show.proofs.blank.Reads as blank-reads
-use Rattle.show.proofs.refusal_line.Reads as refusal-line-reads
-use Rattle.show.proofs.whole_sheet.Reads as whole-sheet-reads
-use Rattle.unit.proofs.sheet.Reads as sheet-reads
-use Rattle.words.proofs.number.Reads as number-reads
-use Rattle.words.proofs.word.Reads as word-reads
+use native.Mathlib.Omega.{arith}
+use mathlib.Core.Path.{_≡_, sym, ap, _∙_}
+use Rattle.block.specs.Block.{posts}
+use Rattle.lamp.specs.Given.{replyOf}
+use Rattle.text.proofs.Writing.{fills}
+use Rattle.show.proofs.Sheets.{headed, at-most, none-of, sheet-refuses, sheet-accepts}
 
--- src/lib.rt:107:17
 blank-requires : tie.Need-blank-requires
 blank-requires c κs = search needs
 
--- src/lib.rt:108:29
 slice-aggregate-sheet : tie.Need-slice-aggregate-sheet
 slice-aggregate-sheet c = search needs
 
--- src/lib.rt:108:11
 sheet-requires : tie.Need-sheet-requires
 sheet-requires c κs = search needs
 
--- src/lib.rt:109:25
 enum-known-r : tie.Need-enum-known-r
 enum-known-r c = search needs
 
--- src/lib.rt:109:31
 refusal-line-requires : tie.Need-refusal-line-requires
 refusal-line-requires c κs = search needs
 
--- src/lib.rt:111:35
 enum-told : tie.Need-enum-told
 enum-told c = search needs
 
--- src/lib.rt:111:35
 word-requires : tie.Need-word-requires
-word-requires c κs = ?
+word-requires c κs =
+    let call = c .before .before .before in
+    let a = call .before .before .before .before .before .args in
+    let accepts = sym (call .sheet .ensures .0) ∙ ap replyOf (c .enum-told .given .1) in
+    let H = headed (a .s .now) (a .k) (none-of (a .s .now) (a .k) _ _ accepts) in
+    omega (arith, H .sized, H .least)
 
--- src/lib.rt:111:17
 number-requires : tie.Need-number-requires
 number-requires c κs = search needs
 
--- src/lib.rt:112:34
 slice-aggregate-whole-sheet : tie.Need-slice-aggregate-whole-sheet
 slice-aggregate-whole-sheet c = search needs
 
--- src/lib.rt:112:13
 whole-sheet-requires : tie.Need-whole-sheet-requires
-whole-sheet-requires c κs = ?
+whole-sheet-requires c κs =
+    let told = c .before .before .before .before in
+    let call = told .before .before .before in
+    let a = call .before .before .before .before .before .args in
+    let accepts = sym (call .sheet .ensures .0) ∙ ap replyOf (told .enum-told .given .1) in
+    let none = none-of (a .s .now) (a .k) _ _ accepts in
+    let H = headed (a .s .now) (a .k) none in
+    let n : c .before .before .number .result ≡ posts (a .s .now) = c .before .before .number .ensures .0 ∙ c .before .before .before .word .ensures in
+    (rw n H, omega (arith, n, at-most (a .s .now) (a .k) none), omega (arith, at-most (a .s .now) (a .k) none, H .most))
 
--- src/lib.rt:104:1
 same-length : tie.Need-same-length
 same-length c = search needs
 
--- src/lib.rt:104:1
 returns : tie.Need-returns
-returns c = ?
+returns c =
+    let call = c .before .before .before .before .before .before .before .before in
+    let a = call .before .before .before .before .before .args in
+    let refuses = sym (call .sheet .ensures .0) ∙ ap replyOf (c .before .before .before .before .before .r .given .1) in
+    let room = sym (call .before .before .blank .ensures) in
+    fills (a .out .now) _ (c .before .before .refusal-line .ensures) (sheet-refuses (a .s .now) (a .k) _ room _ _ refuses)
 
--- src/lib.rt:104:1
 same-length-2 : tie.Need-same-length-2
 same-length-2 c = search needs
 
--- src/lib.rt:104:1
 returns-2 : tie.Need-returns-2
-returns-2 c = ?
+returns-2 c =
+    let end = c .before .before in
+    let told = end .before .before .before .before .before in
+    let call = told .before .before .before in
+    let a = call .before .before .before .before .before .args in
+    let accepts = sym (call .sheet .ensures .0) ∙ ap replyOf (told .enum-told .given .1) in
+    let n = end .before .before .before .number .ensures .0 ∙ end .before .before .before .before .word .ensures in
+    let after = call .sheet .ensures .1 in
+    fills (a .out .now) _ (end .whole-sheet .ensures) (rw after (sheet-accepts (a .s .now) (a .k) _ _ accepts _ n))
 
 pub sheet-spec : {M : Type 1} → statement M
 sheet-spec =

@@ -1,56 +1,69 @@
 use borrow.Author.Needs.{needs}
 use Rattle.show.proofs.whole_sheet.Statement.{statement}
 use Rattle.show.proofs.whole_sheet.Tie as tie
-use Rattle.show.proofs.whole_sheet.Reads as reads
-use Rattle.show.proofs.whole_sheet.Lts as lts
-use Rattle.show.proofs.head_line.Reads as head-line-reads
-use Rattle.show.proofs.lines.Reads as lines-reads
-use Rattle.show.proofs.no_names.Reads as no-names-reads
-use Rattle.words.proofs.unpack.Reads as unpack-reads
+use native.Mathlib.Omega.{arith}
+use mathlib.Core.Path.{_≡_, sym, ap, _∙_}
+use mathlib.Core.List.{List}
+use Prim.Native.Nat.{ℕ}
+use lib.ListN.{length, take}
+use lib.Seq.{length-take-le}
+use Rattle.words.specs.Numbers.{wordsAt}
+use Rattle.block.specs.Layout.{orderAt}
+use Rattle.block.specs.Block.{order}
+use Rattle.text.specs.Filling.{write}
+use Rattle.text.proofs.Writing.{write-then}
+use Rattle.show.specs.Shown.{headLine, linesTo}
+use Rattle.show.specs.Entered.{entryLine}
 
--- src/lib.rt:88:18
 no-names-requires : tie.Need-no-names-requires
 no-names-requires c κs = search needs
 
--- src/lib.rt:89:42
 slice-aggregate-unpack : tie.Need-slice-aggregate-unpack
 slice-aggregate-unpack c = search needs
 
--- src/lib.rt:89:5
 unpack-requires : tie.Need-unpack-requires
 unpack-requires c κs = search needs
 
--- src/lib.rt:90:26
 cast-head-line : tie.Need-cast-head-line
 cast-head-line c = search needs
 
--- src/lib.rt:90:36
 cast-head-line-2 : tie.Need-cast-head-line-2
 cast-head-line-2 c = search needs
 
--- src/lib.rt:90:9
 head-line-requires : tie.Need-head-line-requires
 head-line-requires c κs = search needs
 
--- src/lib.rt:91:11
 array-share-prefix-vs : tie.Need-array-share-prefix-vs
 array-share-prefix-vs c = search needs
 
--- src/lib.rt:91:11
 slice-aggregate-lines : tie.Need-slice-aggregate-lines
-slice-aggregate-lines c = ?
+slice-aggregate-lines c =
+    let made = c .before .before .before .before .before .before in
+    sym (length-take-le (made .before .before .before .before .before .before .args .n) _ (omega arith))
 
--- src/lib.rt:91:5
 lines-requires : tie.Need-lines-requires
-lines-requires c κs = ?
+lines-requires c κs =
+    let made = c .before .before .before .before .before .before .before in
+    let entry = made .before .before .before .before .before .before in
+    let H = entry .pre .0 in
+    let all : length (take (entry .args .n) _) ≡ entry .args .n = length-take-le (entry .args .n) (made .unpack .last .1 .1 .1 .0) (omega arith) in
+    (omega (arith, all), search needs, omega (arith, H .most))
 
--- src/lib.rt:83:1
 same-length : tie.Need-same-length
 same-length c = search needs
 
--- src/lib.rt:83:1
 returns : tie.Need-returns
-returns c = ?
+unfolding order
+returns c =
+    let end = c .before .before in
+    let head = end .before .before .before .before .before in
+    let made = head .before .before .before in
+    let entry = made .before .before .before .before .before .before in
+    let a = entry .args in
+    let H = entry .pre .0 in
+    let names = made .unpack .ensures ∙ ap (wordsAt (a .s .now) orderAt) (H .is) in
+    let all : List ℕ → List ℕ = λ vs. linesTo (a .k) (entryLine vs (a .b .now)) in
+    write-then _ (headLine (a .n) (a .k)) (all (order (a .s .now))) (head .head-line .ensures) (rw (← names) (end .lines .ensures))
 
 pub whole-sheet-spec : {M : Type 1} → statement M
 whole-sheet-spec =

@@ -1,54 +1,36 @@
 use borrow.Author.Needs.{needs}
 use Rattle.show.proofs.replies.reply_of_post.Statement.{statement}
 use Rattle.show.proofs.replies.reply_of_post.Tie as tie
-use Rattle.show.proofs.replies.reply_of_post.Reads as reads
-use Rattle.show.proofs.replies.reply_of_post.Lts as lts
-use Rattle.show.proofs.refusal.Reads as refusal-reads
-use Rattle.show.proofs.replies.record.Reads as record-reads
-use Rattle.text.proofs.put.Reads as put-reads
-use Rattle.unit.proofs.post.Reads as post-reads
+use Prim.Native.Nat.{ℕ}
+use mathlib.Core.Path.{sym, ap}
+use mathlib.Core.List.{List, _++_}
+use Rattle.text.specs.Letters.{newline}
+use Rattle.text.proofs.Writing.{write-then, put-written, fills}
+use Rattle.show.specs.Replied.{recordText, postReplyLine}
 
--- src/replies.rt:88:21
 post-requires : tie.Need-post-requires
 post-requires c κs = search needs
 
--- src/replies.rt:89:25
-enum-known-r : tie.Need-enum-known-r
-enum-known-r c = search needs
+posted-requires : tie.Need-posted-requires
+posted-requires c κs = search needs
 
--- src/replies.rt:89:31
-refusal-requires : tie.Need-refusal-requires
-refusal-requires c κs = search needs
-
--- src/replies.rt:90:26
-enum-known-r-2 : tie.Need-enum-known-r-2
-enum-known-r-2 c = search needs
-
--- src/replies.rt:90:32
-record-requires : tie.Need-record-requires
-record-requires c κs = search needs
-
--- src/replies.rt:92:5
 put-requires : tie.Need-put-requires
 put-requires c κs = search needs
 
--- src/replies.rt:85:1
 same-length : tie.Need-same-length
-same-length c = ?
+same-length c = search needs
 
--- src/replies.rt:85:1
 returns : tie.Need-returns
-returns c = ?
+unfolding postReplyLine
+returns c =
+    let end = c .before .before in
+    let told = end .before .before .before .before in
+    let post = told .before .before in
+    let a = post .before .before .before .args in
+    let reply = sym (ap recordText (post .post .ensures)) in
+    let line = write-then _ _ newline (told .posted .ensures) (put-written _ 10 (end .put .ensures)) in
+    fills (a .out .now) _ line (ap (λ (t : List ℕ). t ++ newline) reply)
 
 pub reply-of-post-spec : {M : Type 1} → statement M
 reply-of-post-spec =
-    tie.close
-    (tie.spec
-    post-requires
-    enum-known-r
-    refusal-requires
-    enum-known-r-2
-    record-requires
-    put-requires
-    same-length
-    returns)
+    tie.close (tie.spec post-requires posted-requires put-requires same-length returns)
