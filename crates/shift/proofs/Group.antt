@@ -1,5 +1,5 @@
--- Groups: a step of a method that moves the posts right by their groups, the later on the contour the farther. The new post v takes the
--- place of its run's inner posts on the contour, and their groups.
+-- Groups: in a step the posts move right by their groups, the later on the contour the farther. The new post v takes the place of its run's
+-- inner posts on the contour, and their groups.
 use Prim.Native.Nat.{ℕ, _+_, _≤_, _<_}
 use mathlib.Core.Path.{_≡_, ap}
 use mathlib.Core.Logic.{inl, inr}
@@ -10,49 +10,43 @@ use Rattle.drawing.specs.Meeting.{Places}
 use Rattle.drawing.proofs.Numbers.{by-le}
 use Rattle.words.proofs.Lists.{in-cases, in-left, in-right}
 use Rattle.words.proofs.Chains.{Chain, chain-at, chain-to, chain-join, chain-in, chain-from, chain-last}
+use Rattle.shift.specs.Step.{BeforeRun, InRun, AfterRun, Regroup}
 use Rattle.shift.proofs.Shift.{Slides}
 
--- the groups up to p's stay, those from q's on move by j, and those between move by i and become v's
-pub record Regroup (s s' : Places) (g g' : ℕ → ℕ) (Here : ℕ → Type 0) (p q v i j : ℕ) : Type 0 where
-  pub level : (u : ℕ) → Here u → s' .y u ≡ s .y u
-  pub lo : (u : ℕ) → Here u → g u ≤ g p → (s' .x u ≡ s .x u) × (g' u ≡ g u)
-  pub mi : (u : ℕ) → Here u → g p < g u → g u < g q → (s' .x u ≡ s .x u + i) × (g' u ≡ g p + 1)
-  pub hi : (u : ℕ) → Here u → g q ≤ g u → (s' .x u ≡ s .x u + j) × (g' u + g q ≡ g u + g p + 2)
-  pub v-place : g' v ≡ g p + 1
+-- which of the three a post does
+pub data Moved (s s' : Places) (g g' : ℕ → ℕ) (p q u : ℕ) : Type 0 where
+  lo : g u ≤ g p → BeforeRun s s' g g' u → Moved s s' g g' p q u
+  mi : g p < g u → g u < g q → InRun s s' g g' p u → Moved s s' g g' p q u
+  hi : g q ≤ g u → AfterRun s s' g g' p q u → Moved s s' g g' p q u
 
-module _ (s s' : Places) (g g' : ℕ → ℕ) (Here : ℕ → Type 0) (p q v i j : ℕ) (S : Regroup s s' g g' Here p q v i j) where
+module _ (s s' : Places) (g g' : ℕ → ℕ) (Here : ℕ → Type 0) (p q v : ℕ) (S : Regroup s s' g g' Here p q v) where
   open Places s using (x)
   open Places s' using (x as x')
 
-  pub data Moved (u : ℕ) : Type 0 where
-    lo : g u ≤ g p → x' u ≡ x u → g' u ≡ g u → Moved u
-    mi : g p < g u → g u < g q → x' u ≡ x u + i → g' u ≡ g p + 1 → Moved u
-    hi : g q ≤ g u → x' u ≡ x u + j → g' u + g q ≡ g u + g p + 2 → Moved u
+  abbrev Moves-of : ℕ → Type 0
+  Moves-of = Moved s s' g g' p q
 
-  pub moved : (u : ℕ) → Here u → Moved u
-  moved u h =
-      by-le (g u) (g p) (λ k. lo k (S .lo u h k .0) (S .lo u h k .1))
-      (λ k. by-le (g q) (g u) (λ l. hi l (S .hi u h l .0) (S .hi u h l .1)) (λ l. mi k l (S .mi u h k l .0) (S .mi u h k l .1)))
+  pub moved : (u : ℕ) → Here u → Moves-of u
+  moved u h = by-le (g u) (g p) (λ k. lo k (S .lo u h k)) (λ k. by-le (g q) (g u) (λ l. hi l (S .hi u h l)) (λ l. mi k l (S .mi u h k l)))
 
-  module _ (pq : g p < g q) (ij : i ≤ j) where
-    order : (z u : ℕ) → Moved z → Moved u → g z ≤ g u → (x' z + x u ≤ x' u + x z) × (g' z ≤ g' u)
-    order z u (lo a b e) (lo k l f) h = omega arith
-    order z u (lo a b e) (mi k k' l f) h = omega arith
-    order z u (lo a b e) (hi k l f) h = omega arith
-    order z u (mi a a' b e) (lo k l f) h = omega arith
-    order z u (mi a a' b e) (mi k k' l f) h = omega arith
-    order z u (mi a a' b e) (hi k l f) h = omega arith
-    order z u (hi a b e) (lo k l f) h = omega arith
-    order z u (hi a b e) (mi k k' l f) h = omega arith
-    order z u (hi a b e) (hi k l f) h = omega arith
+  order : (z u : ℕ) → g p < g q → Moves-of z → Moves-of u → g z ≤ g u → (x' z + x u ≤ x' u + x z) × (g' z ≤ g' u)
+  order z u pq (lo a b) (lo k l) h = omega arith
+  order z u pq (lo a b) (mi k k' l) h = omega arith
+  order z u pq (lo a b) (hi k l) h = omega arith
+  order z u pq (mi a a' b) (lo k l) h = omega arith
+  order z u pq (mi a a' b) (mi k k' l) h = omega arith
+  order z u pq (mi a a' b) (hi k l) h = omega arith
+  order z u pq (hi a b) (lo k l) h = omega arith
+  order z u pq (hi a b) (mi k k' l) h = omega arith
+  order z u pq (hi a b) (hi k l) h = omega arith
 
-    right : (u : ℕ) → Moved u → x u ≤ x' u
-    right u (lo a b e) = omega arith
-    right u (mi a a' b e) = omega arith
-    right u (hi a b e) = omega arith
+  right : (u : ℕ) → Moves-of u → x u ≤ x' u
+  right u (lo a b) = omega arith
+  right u (mi a a' b) = omega arith
+  right u (hi a b) = omega arith
 
-    pub slides : Slides s s' g g' Here
-    slides = record { right = λ u h. right u (moved u h); level = S .level; order = λ z u k l. order z u (moved z k) (moved u l) }
+  pub slides : g p < g q → Slides s s' g g' Here
+  slides pq = record { right = λ u h. right u (moved u h); level = S .level; order = λ z u k l. order z u pq (moved z k) (moved u l) }
 
 -- the contour, along which groups grow
 module _ (g : ℕ → ℕ) (L : List ℕ) (p : ℕ) (M : List ℕ) (q : ℕ) (R : List ℕ) (E : ℕ → ℕ → Type 0) (trans : (a b c : ℕ) → E a b → E b c → E a c)

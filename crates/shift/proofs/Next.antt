@@ -12,9 +12,10 @@ use Rattle.words.specs.Lists.{In}
 use Rattle.placing.specs.Stages.{Stage, placeOver}
 use Rattle.words.proofs.Lists.{in-cases, in-left, in-right}
 use Rattle.drawing.proofs.Build.{Build, post, Post, on-contour}
+use Rattle.shift.specs.Step.{Regroup, Shifts}
 use Rattle.shift.proofs.Groups.{sides}
-use Rattle.shift.proofs.Group.{Regroup, Moved, lo, mi, hi, moved}
-use Rattle.shift.proofs.Shifting.{Shifts, laid-next}
+use Rattle.shift.proofs.Group.{Moved, lo, mi, hi, moved}
+use Rattle.shift.proofs.Shifting.{laid-next}
 use Rattle.shift.proofs.Drawn.{placesOf, Drawn}
 use Rattle.placing.proofs.Placed.{movedBy}
 use Rattle.shift.proofs.Over.{over, before-run, inside, after-run, ends, ones, in-ones, by-0, by-1, by-2, placed-over}
@@ -90,13 +91,17 @@ module _ (t : Stage) (X : List ℕ) (p : ℕ) (M : List ℕ) (q : ℕ) (Y : List
       let e : g' u ≡ g u + g p + 2 - g q = g-old u h ∙ rw (lt-leb (g u) (g p) (omega arith), le-leb (g q) (g u) k) in
       omega arith
 
-  regroup : Regroup (placesOf t) (placesOf t') g g' (Post B) p q v 1 2
+  regroup : Regroup (placesOf t) (placesOf t') g g' (Post B) p q v
   regroup =
       record {
         level = y-old;
-        lo = λ u h k. (omega (arith, x-old u h, by-0 t X p M q Y D u k), g-old u h ∙ rw (le-leb (g u) (g p) k));
-        mi = λ u h k l. (omega (arith, x-old u h, by-1 t X p M q Y D u h k l), g-old u h ∙ rw (lt-leb (g u) (g p) k, lt-leb (g q) (g u) l));
-        hi = λ u h k. (omega (arith, x-old u h, by-2 t X p M q Y D u h k), high u h k);
+        lo = λ u h k. record { moves = omega (arith, x-old u h, by-0 t X p M q Y D u k); group = g-old u h ∙ rw (le-leb (g u) (g p) k) };
+        mi = λ u h k l.
+            record {
+              moves = omega (arith, x-old u h, by-1 t X p M q Y D u h k l);
+              group = g-old u h ∙ rw (lt-leb (g u) (g p) k, lt-leb (g q) (g u) l);
+            };
+        hi = λ u h k. record { moves = omega (arith, x-old u h, by-2 t X p M q Y D u h k); group = high u h k };
         v-place = g-new;
       }
 
@@ -113,15 +118,15 @@ module _ (t : Stage) (X : List ℕ) (p : ℕ) (M : List ℕ) (q : ℕ) (Y : List
   on-q = on-contour B q in-q
 
   abbrev Moves-of : ℕ → Type 0
-  Moves-of = Moved (placesOf t) (placesOf t') g g' (Post B) p q v 1 2 regroup
+  Moves-of = Moved (placesOf t) (placesOf t') g g' p q
 
   moves-of : (u : ℕ) → Post B u → Moves-of u
-  moves-of = moved (placesOf t) (placesOf t') g g' (Post B) p q v 1 2 regroup
+  moves-of = moved (placesOf t) (placesOf t') g g' (Post B) p q v regroup
 
   right : (u : ℕ) → Moves-of u → (t .x u ≤ t' .x u) × (t' .x u ≤ t .x u + 2)
-  right u (lo a b e) = omega arith
-  right u (mi a a' b e) = omega arith
-  right u (hi a b e) = omega arith
+  right u (lo a b) = omega arith
+  right u (mi a a' b) = omega arith
+  right u (hi a b) = omega arith
 
   one-step : OneStep t t' p q v
   one-step =
@@ -165,24 +170,24 @@ module _ (t : Stage) (X : List ℕ) (p : ℕ) (M : List ℕ) (q : ℕ) (Y : List
       let b = before-run t X p M q Y D c i in
       let h = on-contour B c (b .1) in
       let r = regroup .lo c h (b .0) in
-      record { is-post = h; was-on = b .1; where-to = inl (omega (arith, r, b .0)); only = λ u k e. go u (moves-of u k) (r .1) (b .0) e }
+      record { is-post = h; was-on = b .1; where-to = inl (omega (arith, r, b .0)); only = λ u k e. go u (moves-of u k) (r .group) (b .0) e }
     where
       go : (u : ℕ) → Moves-of u → g' c ≡ g c → g c ≤ g p → g' u ≡ g' c → g u ≡ g c
-      go u (lo a b e) i j k = omega arith
-      go u (mi a a' b e) i j k = omega arith
-      go u (hi a b e) i j k = omega arith
+      go u (lo a b) i j k = omega arith
+      go u (mi a a' b) i j k = omega arith
+      go u (hi a b) i j k = omega arith
 
   stays-right : (c : ℕ) → In c (q ∷ Y) → Stays c
   stays-right c i =
       let b = after-run t X p M q Y D c i in
       let h = on-contour B c (b .1) in
       let r = regroup .hi c h (b .0) in
-      record { is-post = h; was-on = b .1; where-to = inr (omega (arith, r, b .0)); only = λ u k e. go u (moves-of u k) (r .1) (b .0) e }
+      record { is-post = h; was-on = b .1; where-to = inr (omega (arith, r, b .0)); only = λ u k e. go u (moves-of u k) (r .group) (b .0) e }
     where
       go : (u : ℕ) → Moves-of u → g' c + g q ≡ g c + g p + 2 → g q ≤ g c → g' u ≡ g' c → g u ≡ g c
-      go u (lo a b e) i j k = omega arith
-      go u (mi a a' b e) i j k = omega arith
-      go u (hi a b e) i j k = omega arith
+      go u (lo a b) i j k = omega arith
+      go u (mi a a' b) i j k = omega arith
+      go u (hi a b) i j k = omega arith
 
   -- a post of the new contour: v, or one that stays
   on-new : (c : ℕ) → In c (X ++ p ∷ v ∷ q ∷ Y) → (c ≡ v) ⊎ Stays c
@@ -210,7 +215,7 @@ module _ (t : Stage) (X : List ℕ) (p : ℕ) (M : List ℕ) (q : ℕ) (Y : List
     where
       new : In u (v ∷ flatMap (t .group) M) → ((u ≡ v) ⊎ Post B u) × (g' u ≡ g' v)
       new (inl e) = (inl e, ap g' e)
-      new (inr k) = let r = in-ones t X p M q Y D u k in (inr (r .0), regroup .mi u (r .0) (r .1) (r .2) .1 ∙ sym g-new)
+      new (inr k) = let r = in-ones t X p M q Y D u k in (inr (r .0), regroup .mi u (r .0) (r .1) (r .2) .group ∙ sym g-new)
 
       go : (c ≡ v) ⊎ Stays c → ((u ≡ v) ⊎ Post B u) × (g' u ≡ g' c)
       go (inl e) = rw e (new (subst (In u) (ap (t' .group) e ∙ group-new) h))
@@ -222,9 +227,9 @@ module _ (t : Stage) (X : List ℕ) (p : ℕ) (M : List ℕ) (q : ℕ) (Y : List
   grouped' c u i h e = go (on-new c i) h
     where
       new : (k : Post B u) → Moves-of u → g' u ≡ g p + 1 → In u (flatMap (t .group) M)
-      new k (lo a b d) z = absurd (omega arith)
-      new k (mi a a' b d) z = ones t X p M q Y D u k a a'
-      new k (hi a b d) z = absurd (omega arith)
+      new k (lo a b) z = absurd (omega arith)
+      new k (mi a a' b) z = ones t X p M q Y D u k a a'
+      new k (hi a b) z = absurd (omega arith)
 
       off : (g' c ≤ g p) ⊎ (g p + 2 ≤ g' c) → g' u ≡ g p + 1 → ⊥
       off (inl k) z = omega arith
@@ -249,7 +254,7 @@ module _ (t : Stage) (X : List ℕ) (p : ℕ) (M : List ℕ) (q : ℕ) (Y : List
       )
       go c i e (inr (inl k)) =
           let r = inside t X p M q Y D c k in
-          (v, in-right v X (p ∷ v ∷ q ∷ Y) (inr (inl refl)), regroup .mi u h (omega (arith, r .0)) (omega (arith, r .1)) .1 ∙ sym g-new)
+          (v, in-right v X (p ∷ v ∷ q ∷ Y) (inr (inl refl)), regroup .mi u h (omega (arith, r .0)) (omega (arith, r .1)) .group ∙ sym g-new)
       go c i e (inr (inr k)) = (c, in-right c X (p ∷ v ∷ q ∷ Y) (inr (inr k)), same-place u c h (on-contour B c i) e)
 
   -- ---- the next stage

@@ -10,9 +10,10 @@ use Rattle.drawing.specs.Meeting.{Places}
 use Rattle.words.proofs.Lists.{in-cases, in-left, in-right, in-run}
 use Rattle.words.proofs.Chains.{Chain, chain-run}
 use Rattle.drawing.proofs.Build.{Build, post, Post, on-contour}
+use Rattle.shift.specs.Step.{BeforeRun, AfterRun, Regroup, Shifts}
 use Rattle.shift.proofs.Peaks.{peak}
 use Rattle.shift.proofs.Shift.{HeldPair, HeldRun, HeldAll, kept}
-use Rattle.shift.proofs.Group.{Regroup, Moved, lo, mi, hi, moved, slides, run-chain, to-q, from-p, upto-p, onto-q, renewed}
+use Rattle.shift.proofs.Group.{Moved, lo, mi, hi, moved, slides, run-chain, to-q, from-p, upto-p, onto-q, renewed}
 
 -- b stands later on the contour than a: neither x + y nor x - y falls
 pub record Onward (s : Places) (g : ℕ → ℕ) (a b : ℕ) : Type 0 where
@@ -31,18 +32,12 @@ pub record Laid (s : Places) (g : ℕ → ℕ) (width : ℕ) {C : List ℕ} (B :
   pub bounds : (u : ℕ) → Post B u → (s .y u ≤ s .x u) × (s .x u + s .y u ≤ width)
   pub even : (u : ℕ) → In u C → (s .x u + s .y u) % 2 ≡ 0
 
--- shifts by 1 and 2; v is where the diagonals from p and q meet
-pub record Shifts (s s' : Places) (g g' : ℕ → ℕ) (Here : ℕ → Type 0) (p q v : ℕ) : Type 0 where
-  pub shift : Regroup s s' g g' Here p q v 1 2
-  pub v-sum : s' .x v + s' .y v ≡ s' .x q + s' .y q
-  pub v-dif : s' .x v + s' .y p ≡ s' .x p + s' .y v
-
 module _ (s s' : Places) (g g' : ℕ → ℕ) (width : ℕ) (L : List ℕ) (p : ℕ) (M : List ℕ) (q : ℕ) (R : List ℕ) (v : ℕ) (B : Build (L ++ p ∷ (M ++ q ∷ R)))
     (G : Laid s g width B) (S : Shifts s s' g g' (Post B) p q v) where
   open Places s using (x, y)
   open Places s' using (x as x', y as y')
 
-  abbrev shift : Regroup s s' g g' (Post B) p q v 1 2
+  abbrev shift : Regroup s s' g g' (Post B) p q v
   shift = S .shift
 
   abbrev E : ℕ → ℕ → Type 0
@@ -55,10 +50,10 @@ module _ (s s' : Places) (g g' : ℕ → ℕ) (width : ℕ) (L : List ℕ) (p : 
   grow a b h = h .ord
 
   abbrev Moves-of : ℕ → Type 0
-  Moves-of u = Moved s s' g g' (Post B) p q v 1 2 shift u
+  Moves-of = Moved s s' g g' p q
 
   moves-of : (u : ℕ) → Post B u → Moves-of u
-  moves-of u h = moved s s' g g' (Post B) p q v 1 2 shift u h
+  moves-of = moved s s' g g' (Post B) p q v shift
 
   -- ---- the run
   on : (u : ℕ) → In u (p ∷ (M ++ q ∷ [])) → Post B u
@@ -81,15 +76,13 @@ module _ (s s' : Places) (g g' : ℕ → ℕ) (width : ℕ) (L : List ℕ) (p : 
 
   -- the ends of the run after the shift
   record Ends : Type 0 where
-    xp : x' p ≡ x p
     yp : y' p ≡ y p
-    gp : g' p ≡ g p
-    xq : x' q ≡ x q + 2
     yq : y' q ≡ y q
-    gq : g' q ≡ g p + 2
+    of-p : BeforeRun s s' g g' p
+    of-q : AfterRun s s' g g' p q q
 
   ends : Ends
-  ends = omega (arith, shift .lo p on-p (omega arith), shift .hi q on-q (omega arith), shift .level p on-p, shift .level q on-q)
+  ends = record { yp = shift .level p on-p; yq = shift .level q on-q; of-p = shift .lo p on-p (omega arith); of-q = shift .hi q on-q (omega arith) }
 
   -- ---- the new post
   positive : (α β γ δ : ℕ) → 0 < γ → 0 < β + δ → 0 < α + β → 0 < α * δ + β * γ
@@ -131,15 +124,15 @@ module _ (s s' : Places) (g g' : ℕ → ℕ) (width : ℕ) (L : List ℕ) (p : 
       pb = later-p' b j
 
       go : Moves-of a → Moves-of b → Seen a b
-      go (lo c d e) (mi k k' m f) = omega (arith, l, aq, pb, ends, low-a a i, low-b b j, shift .level a ia, shift .level b ib, shift .v-place)
-      go (lo c d e) (hi k m f) = omega (arith, l, aq, pb, ends, low-a a i, low-b b j, shift .level a ia, shift .level b ib, shift .v-place)
-      go (mi c c' d e) (mi k k' m f) = omega (arith, l, aq, pb, ends, low-a a i, low-b b j, shift .level a ia, shift .level b ib, shift .v-place)
-      go (mi c c' d e) (hi k m f) = omega (arith, l, aq, pb, ends, low-a a i, low-b b j, shift .level a ia, shift .level b ib, shift .v-place)
-      go (lo c d e) (lo k m f) = absurd (omega (arith, pb))
-      go (mi c c' d e) (lo k m f) = absurd (omega (arith, pb))
-      go (hi c d e) (lo k m f) = absurd (omega (arith, aq))
-      go (hi c d e) (mi k k' m f) = absurd (omega (arith, aq))
-      go (hi c d e) (hi k m f) = absurd (omega (arith, aq))
+      go (lo c d) (mi k k' m) = omega (arith, l, aq, pb, ends, low-a a i, low-b b j, shift .level a ia, shift .level b ib, shift .v-place)
+      go (lo c d) (hi k m) = omega (arith, l, aq, pb, ends, low-a a i, low-b b j, shift .level a ia, shift .level b ib, shift .v-place)
+      go (mi c c' d) (mi k k' m) = omega (arith, l, aq, pb, ends, low-a a i, low-b b j, shift .level a ia, shift .level b ib, shift .v-place)
+      go (mi c c' d) (hi k m) = omega (arith, l, aq, pb, ends, low-a a i, low-b b j, shift .level a ia, shift .level b ib, shift .v-place)
+      go (lo c d) (lo k m) = absurd (omega (arith, pb))
+      go (mi c c' d) (lo k m) = absurd (omega (arith, pb))
+      go (hi c d) (lo k m) = absurd (omega (arith, aq))
+      go (hi c d) (mi k k' m) = absurd (omega (arith, aq))
+      go (hi c d) (hi k m) = absurd (omega (arith, aq))
 
   held : (a b : ℕ) → In a (p ∷ M) → In b (M ++ q ∷ []) → Onward s g a b → HeldPair s' g' v a b
   held a b i j l =
@@ -184,9 +177,9 @@ module _ (s s' : Places) (g g' : ℕ → ℕ) (width : ℕ) (L : List ℕ) (p : 
   bounds' u (inr h) = go (moves-of u h)
     where
       go : Moves-of u → (y' u ≤ x' u) × (x' u + y' u ≤ width + 2)
-      go (lo a b e) = omega (arith, shift .level u h, G .bounds u h)
-      go (mi a a' b e) = omega (arith, shift .level u h, G .bounds u h)
-      go (hi a b e) = omega (arith, shift .level u h, G .bounds u h)
+      go (lo a b) = omega (arith, shift .level u h, G .bounds u h)
+      go (mi a a' b) = omega (arith, shift .level u h, G .bounds u h)
+      go (hi a b) = omega (arith, shift .level u h, G .bounds u h)
 
   even' : (u : ℕ) → In u (L ++ p ∷ v ∷ q ∷ R) → (x' u + y' u) % 2 ≡ 0
   even' u = in-cases u L (p ∷ v ∷ q ∷ R) (λ i. low u (in-left u L (p ∷ []) i)) go
@@ -210,5 +203,5 @@ module _ (s s' : Places) (g g' : ℕ → ℕ) (width : ℕ) (L : List ℕ) (p : 
 
   pub laid-next : Laid s' g' (width + 2) (post L p M q R v B)
   laid-next =
-      let m = slides s s' g g' (Post B) p q v 1 2 shift (pq .ord) (omega arith) in
+      let m = slides s s' g g' (Post B) p q v shift (pq .ord) in
       record { kept = (holds, kept s s' g g' B m (G .kept)); rise = rise'; bounds = bounds'; even = even' }
