@@ -2,7 +2,7 @@
 -- give a place stand behind the row that bounds n.
 use Prim.Native.Nat.{ℕ, zero, suc, _+_, _-_, _≤_, _<_}
 use mathlib.Core.Path.{_≡_, refl, subst}
-use mathlib.Core.Bool.{Bool, true, false, not}
+use mathlib.Core.Bool.{Bool, true, false}
 use mathlib.Core.List.{List, [], _∷_, _++_, flatMap, append-nil}
 use native.Mathlib.Omega.{arith}
 use lib.Dec.{ltb}
@@ -54,8 +54,8 @@ module _ {A : Type 0} (s : List ℕ) (answer : List ℕ → A) (m : ℕ) where
 -- ---- the rows
 
 -- those between the header's and the rule per position
-abbrev boardRows : List Row
-boardRows = sumRows ++ orderRows ++ degreeRows ++ ringRows ++ triangleRows ++ outerRows
+abbrev contentRows : List Row
+contentRows = sumRows ++ orderRows ++ degreeRows ++ ringRows ++ triangleRows ++ outerRows
 
 module _ (s : List ℕ) where
   -- the first name at fault is a name or n; the first position at fault, where there is one, a position up to n
@@ -72,8 +72,9 @@ module _ (s : List ℕ) where
   header-sized : (m : ℕ) → SizedRows m s headerRows
   header-sized m = ((λ e. omega arith), ((λ e. omega arith), ((λ e. omega arith), ((λ e. omega arith), ((λ e. omega arith), tt)))))
 
-  board-sized : SizedRows n s boardRows
-  board-sized = (
+  -- a row each: sum, order, degrees, rings, triangles, outer triangle
+  content-sized : SizedRows n s contentRows
+  content-sized = (
     (λ e. omega arith),
     (
       (λ e. omega (arith, a-position (entryFault s) e)),
@@ -105,10 +106,10 @@ module _ (s : List ℕ) where
       → SizedReply limit (given (checkRows s ++ after) s answer)
   unfolding checkRows blockRows
   told-sized answer after h =
-      let checks = boardRows ++ fittingRows s in
+      let checks = contentRows ++ fittingRows s in
       sized-past s answer limit headerRows (checks ++ after) (header-sized limit) (λ none.
       let r = in-range none in
-      let c = sized-both n s boardRows (fittingRows s) board-sized (positions-sized (n - 2) 3 (omega arith)) in
+      let c = sized-both n s contentRows (fittingRows s) content-sized (positions-sized (n - 2) 3 (omega arith)) in
       sized-given s answer limit (checks ++ after) (wider n limit (r .1) (checks ++ after) (sized-both n s checks after c h)))
 
   -- check's own

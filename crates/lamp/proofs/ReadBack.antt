@@ -1,8 +1,7 @@
 -- Each refusal is read back from its number and place; so refusals, and answers, are told apart.
 use Prim.Native.Nat.{ℕ}
 use mathlib.Core.Path.{_≡_, refl, sym, ap, _∙_}
-use mathlib.Core.List.{[], _∷_}
-use mathlib.Core.Option.{Option, some}
+use mathlib.Core.Option.{some}
 use Rattle.lamp.specs.Refusals.{numberOf, placeOf}
 use Rattle.lamp.specs.Given.{Reply, refused, replyOf}
 use Rattle.lamp.specs.ReadBack.{refusalsAt, withNumber, refusalOf, ToldApart}

@@ -3,10 +3,8 @@ use Prim.Native.Nat.{ℕ, _+_, _≤_, _<_}
 use mathlib.Core.Path.{_≡_, refl, sym}
 use mathlib.Core.List.{List}
 use native.Mathlib.Omega.{arith}
-use lib.ListN.{length, take}
-use Rattle.words.specs.Lists.{In}
-use Rattle.block.specs.Block.{posts, order, lists}
-use Rattle.placing.specs.Stages.{stage}
+use lib.ListN.{length}
+use Rattle.block.specs.Block.{order, lists}
 use Rattle.shift.proofs.Next.{OneStep}
 use Rattle.shift.proofs.Every.{exact-at}
 use Rattle.lamp.specs.Given.{accepted, checkReply}

@@ -1,12 +1,9 @@
 -- Two answers that meet a promise are told alike, and answers that are told alike are equal.
-use Prim.Native.Nat.{ℕ}
 use mathlib.Core.Path.{_≡_, sym, ap, _∙_}
-use mathlib.Core.List.{List}
-use Rattle.lamp.specs.declared.Answer.{Answer}
 use Rattle.lamp.proofs.Given.{not-both}
 use Rattle.lamp.proofs.ReadBack.{one-refused, one-told}
 use Rattle.unit.specs.Replies.{postedOf}
-use Rattle.unit.specs.Unique.{CheckPromise, SheetPromise, PostPromise, OneReply}
+use Rattle.unit.specs.Unique.{OneReply}
 use Rattle.unit.specs.declared.Posted.{Posted}
 
 pub one-posted : (r q : Posted) → postedOf r ≡ postedOf q → r ≡ q
@@ -19,6 +16,6 @@ pub one-reply : OneReply
 one-reply =
     record {
       check = λ s r q e f. one-told r q (e ∙ sym f);
-      sheet = λ s k b r q after other e f. (one-told r q (e .0 ∙ sym (f .0)), e .1 ∙ sym (f .1));
+      sheet = λ s k b r q after other e f. (one-told r q (e .0 ∙ sym (f .0)), cc (e .1, f .1));
       post = λ s k u r q e f. one-posted r q (e ∙ sym f);
     }
