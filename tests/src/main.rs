@@ -3,10 +3,11 @@
 
 use outside::ffi;
 use outside::parts::{Part, PARTS};
+use outside::programs::stand_in;
 use outside::tally::Tally;
-use std::fs;
 use std::path::Path;
 use std::process::ExitCode;
+use std::{env, fs};
 
 /// The fixed seed, of a run for which none is given.
 const SEED: u64 = 1990;
@@ -20,7 +21,11 @@ outside parts              list the parts' names
 ";
 
 fn main() -> ExitCode {
-    let arguments: Vec<String> = std::env::args().skip(1).collect();
+    let mut words = env::args_os().skip(1);
+    if words.next().is_some_and(|word| word == "stand-in") {
+        return ExitCode::from(u8::from(stand_in(words).is_err()));
+    }
+    let arguments: Vec<String> = env::args().skip(1).collect();
     let words: Vec<&str> = arguments.iter().map(String::as_str).collect();
     let done = match words[..] {
         [] => run("all", None, None),
