@@ -1,5 +1,6 @@
-//! The test program: everything that goes through the unit's C library is
-//! compared with what the paper says. It ends at the first difference.
+//! The test program: everything that goes through the unit's C library, and
+//! what its programs print, is compared with what the paper says. It ends at
+//! the first difference.
 
 use outside::ffi;
 use outside::parts::{Part, PARTS};
@@ -18,6 +19,7 @@ outside PART [SEED]        run one part, or `all`; the seed is a whole number, o
 outside PART SEED FILE     the same, and write what was counted to a file
 outside sum FOLDER         add up what all parts have counted, in files with their names
 outside parts              list the parts' names
+outside stand-in PROGRAM   answer as the program `sheet` or `stage` should, where there are none to try
 ";
 
 fn main() -> ExitCode {

@@ -182,18 +182,20 @@ fn fed(mut command: Command, input: &[u8], piece: usize) -> io::Result<Output> {
     })
 }
 
-/// How long the program is left alone between two pieces of its input.
-const PAUSE: Duration = Duration::from_millis(2);
+/// How long input in pieces takes in all: the program begins to read before its end.
+const SLOWLY: Duration = Duration::from_millis(200);
 
 /// Write the input and close the pipe. A program may stop reading before its end.
 fn feed(mut pipe: ChildStdin, input: &[u8], piece: usize) -> io::Result<()> {
-    for part in input.chunks(piece) {
+    let parts = input.chunks(piece);
+    let pause = SLOWLY / parts.len().max(1) as u32;
+    for part in parts {
         match pipe.write_all(part) {
             Err(error) if error.kind() == ErrorKind::BrokenPipe => return Ok(()),
             done => done?,
         }
         if part.len() < input.len() {
-            thread::sleep(PAUSE);
+            thread::sleep(pause);
         }
     }
     Ok(())
