@@ -62,7 +62,8 @@ impl Tester {
         expected
     }
 
-    fn count(&mut self, service: Service, refusal: Option<Refusal>) {
+    /// Count a call that was accepted or refused.
+    pub fn count(&mut self, service: Service, refusal: Option<Refusal>) {
         let number = refusal.map(|refusal| refusal.number);
         self.tally.calls += 1;
         self.tally.replies.count(service, number, 1);

@@ -1,8 +1,10 @@
 //! Kinds of damage to the block of an accepted board, and boards in pieces.
 
 mod draft;
+mod each;
 mod pieces;
 
+pub use each::one_for_each;
 pub use pieces::{order_of_pieces, pieces};
 
 use crate::board::{mend_sum, Board};

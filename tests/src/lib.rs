@@ -16,6 +16,7 @@ pub mod layout;
 pub mod linear;
 pub mod paper;
 pub mod parts;
+pub mod programs;
 pub mod refusals;
 pub mod reply;
 pub mod rng;

@@ -1,12 +1,14 @@
-//! The test program: everything that goes through the unit's C library is
-//! compared with what the paper says. It ends at the first difference.
+//! The test program: everything that goes through the unit's C library, and
+//! what its programs print, is compared with what the paper says. It ends at
+//! the first difference.
 
 use outside::ffi;
 use outside::parts::{Part, PARTS};
+use outside::programs::stand_in;
 use outside::tally::Tally;
-use std::fs;
 use std::path::Path;
 use std::process::ExitCode;
+use std::{env, fs};
 
 /// The fixed seed, of a run for which none is given.
 const SEED: u64 = 1990;
@@ -17,10 +19,15 @@ outside PART [SEED]        run one part, or `all`; the seed is a whole number, o
 outside PART SEED FILE     the same, and write what was counted to a file
 outside sum FOLDER         add up what all parts have counted, in files with their names
 outside parts              list the parts' names
+outside stand-in PROGRAM   answer as the program `sheet` or `stage` should, where there are none to try
 ";
 
 fn main() -> ExitCode {
-    let arguments: Vec<String> = std::env::args().skip(1).collect();
+    let mut words = env::args_os().skip(1);
+    if words.next().is_some_and(|word| word == "stand-in") {
+        return ExitCode::from(u8::from(stand_in(words).is_err()));
+    }
+    let arguments: Vec<String> = env::args().skip(1).collect();
     let words: Vec<&str> = arguments.iter().map(String::as_str).collect();
     let done = match words[..] {
         [] => run("all", None, None),

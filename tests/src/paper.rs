@@ -3,6 +3,9 @@
 //! speed, and shares nothing but the limits with any other implementation.
 
 mod drawing;
+mod print;
+
+pub use print::{number, refused_text, sheet_text};
 
 use crate::layout::{FEWEST, MOST};
 use crate::reply::{Record, Refusal};

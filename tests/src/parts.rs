@@ -1,5 +1,6 @@
 //! The parts of the test program.
 
+mod printed;
 mod right;
 mod wrong;
 
@@ -25,6 +26,7 @@ macro_rules! parts {
 /// All parts. The longest come first, so that two processes end at about the same time.
 pub const PARTS: &[Part] = parts![
     "cases", "the paper's cases 1 to 11": |trial| cases::run(&mut trial.tester);
+    "programs", "what the programs sheet and stage print": printed::programs;
     "large", "random boards up to the most posts there can be": right::large_boards;
     "small", "every board with every order up to 8 posts": right::every_small_board;
     "orders", "every order of every board up to 7 posts": right::every_order_of_small_boards;

@@ -1,17 +1,23 @@
-//! Which refusal each service can give: those must all come up in a whole run,
-//! and no other may.
+//! Which refusal each service and each program can give: those must all come up
+//! in a whole run, and no other may.
 
 use std::collections::BTreeMap;
-use Service::{Check, Post, Sheet};
+use Service::{Check, Post, Sheet, SheetProgram, StageProgram};
 
+/// The services, and the programs that print what they reply.
 #[derive(Clone, Copy, PartialEq, Eq, PartialOrd, Ord, Debug)]
 pub enum Service {
     Check,
     Sheet,
     Post,
+    SheetProgram,
+    StageProgram,
 }
 
-pub const SERVICES: [Service; 3] = [Check, Sheet, Post];
+pub const SERVICES: [Service; 5] = [Check, Sheet, Post, SheetProgram, StageProgram];
+
+/// The programs among them.
+pub const PROGRAMS: [Service; 2] = [SheetProgram, StageProgram];
 
 impl Service {
     pub fn name(self) -> &'static str {
@@ -19,12 +25,17 @@ impl Service {
             Check => "check",
             Sheet => "sheet",
             Post => "post",
+            SheetProgram => "bin/sheet",
+            StageProgram => "bin/stage",
         }
     }
 }
 
 /// A refusal's number, the services that can give it, and why no other can.
 type Line = (u16, &'static [Service], &'static str);
+
+const NO_STAGE: &str = "check is asked for no stage, and bin/sheet prints the last one";
+const NO_BUFFER: &str = "check and post are lent no buffer, and the programs' is long enough";
 
 /// The refusals, a line for each number.
 pub const NUMBERS: &[Line] = &[
@@ -42,9 +53,9 @@ pub const NUMBERS: &[Line] = &[
     (12, &SERVICES, ""),
     (13, &SERVICES, ""),
     (14, &[], "it is retired: no block can get that far"),
-    (15, &[Sheet, Post], "check is asked for no stage"),
-    (16, &[Sheet], "check and post are lent no buffer"),
-    (17, &[Post], "check and sheet are asked for no name"),
+    (15, &[Sheet, Post, StageProgram], NO_STAGE),
+    (16, &[Sheet], NO_BUFFER),
+    (17, &[Post], "the others are asked for no name"),
 ];
 
 /// The refusals by the order's rule at a position, which steps 1 to 11 come before.
@@ -76,7 +87,15 @@ impl Replies {
 
     /// What came and cannot; of a whole run also what should have come and did not.
     pub fn faults(&self, whole: bool) -> Vec<String> {
-        let lines = || [ACCEPTED].into_iter().chain(NUMBERS.iter().copied());
+        let mut faults = self.impossible();
+        if whole {
+            faults.extend(self.never(&SERVICES));
+        }
+        faults
+    }
+
+    /// What came and cannot.
+    fn impossible(&self) -> Vec<String> {
         let mut faults = Vec::new();
         for (service, number, times) in self.each() {
             let why = match lines().find(|line| line.0 == number) {
@@ -87,29 +106,38 @@ impl Replies {
             let service = service.name();
             faults.push(format!("{service} gave {number} {times} times, but {why}"));
         }
-        for (number, from, _) in lines().filter(|_| whole) {
-            let never = from
-                .iter()
-                .filter(|&&service| self.of(service, number) == 0);
+        faults
+    }
+
+    /// What can come from one of these and did not.
+    pub fn never(&self, services: &[Service]) -> Vec<String> {
+        let mut faults = Vec::new();
+        for (number, from, _) in lines() {
+            let can = services.iter().filter(|service| from.contains(service));
+            let never = can.filter(|&&service| self.of(service, number) == 0);
             faults.extend(never.map(|service| format!("{} never gave {number}", service.name())));
         }
         faults
     }
 
     pub fn print(&self) {
-        let [check, sheet, post] = SERVICES.map(Service::name);
-        println!("replies by number (0: accepted)\n      {check:>9}{sheet:>9}{post:>9}");
-        for &(number, from, why) in [ACCEPTED].iter().chain(NUMBERS) {
+        let heads = SERVICES.map(|service| format!("{:>11}", service.name()));
+        println!("replies by number (0: accepted)\n     {}", heads.concat());
+        for (number, from, why) in lines() {
             let count = |service: Service| match (self.of(service, number), from.contains(&service))
             {
-                (0, false) => "-".to_string(),
-                (times, _) => times.to_string(),
+                (0, false) => format!("{:>11}", "-"),
+                (times, _) => format!("{times:>11}"),
             };
-            let [check, sheet, post] = SERVICES.map(count);
-            let line = format!("  {number:2}: {check:>9}{sheet:>9}{post:>9}   {why}");
+            let line = format!("  {number:2}:{}   {why}", SERVICES.map(count).concat());
             println!("{}", line.trim_end());
         }
     }
+}
+
+/// What can come: that a call is accepted, and the refusals.
+fn lines() -> impl Iterator<Item = Line> {
+    [ACCEPTED].into_iter().chain(NUMBERS.iter().copied())
 }
 
 #[cfg(test)]
@@ -118,7 +146,7 @@ mod tests {
 
     fn all_that_can_come() -> Replies {
         let mut replies = Replies::default();
-        for &(number, from, _) in [ACCEPTED].iter().chain(NUMBERS) {
+        for (number, from, _) in lines() {
             from.iter()
                 .for_each(|&service| replies.count(service, Some(number), 1));
         }
@@ -140,10 +168,26 @@ mod tests {
         replies.0.remove(&(Sheet, 13));
         assert_eq!(replies.faults(true), ["sheet never gave 13"]);
         assert_eq!(replies.faults(false), [""; 0]);
-        for (service, number) in [(Check, 14), (Check, 16), (Sheet, 17), (Post, 99)] {
+        for (service, number) in [
+            (Check, 14),
+            (Check, 16),
+            (Sheet, 17),
+            (Post, 99),
+            (SheetProgram, 15),
+            (StageProgram, 16),
+        ] {
             let mut replies = all_that_can_come();
             replies.count(service, Some(number), 2);
             assert_eq!(replies.faults(false).len(), 1, "{number}");
         }
+    }
+
+    #[test]
+    fn a_part_can_ask_for_all_that_comes_from_its_services() {
+        let mut replies = all_that_can_come();
+        replies.0.remove(&(Check, 2));
+        replies.0.remove(&(StageProgram, 15));
+        assert_eq!(replies.never(&PROGRAMS), ["bin/stage never gave 15"]);
+        assert_eq!(replies.never(&[SheetProgram]), [""; 0]);
     }
 }

@@ -22,7 +22,12 @@ macro_rules! counts {
 }
 
 counts! {
+    /// Calls compared, with the programs' runs among them.
     calls,
+    /// Runs of a program, of which every byte that it prints is compared.
+    runs,
+    /// Of these, runs with a word that says no number.
+    usages,
     /// Sheets tested for wires that meet.
     sheets,
     pairs_of_stages,
@@ -101,6 +106,13 @@ impl Tally {
             println!("each number that should come came, from each service that can give it");
         }
         self.report_boards();
+        println!(
+            "{} runs of the programs sheet and stage: {} print what the paper says to the last \
+             byte, {} were given no number and say how to call",
+            self.runs,
+            self.runs - self.usages,
+            self.usages
+        );
         println!("outside: {} calls compared, 0 differences", self.calls);
         Ok(())
     }

@@ -1,4 +1,4 @@
-//! The board tool: a block from a readable text, and back.
+//! The board tool: a block from a readable text, and back; and its sheet.
 
 use outside::boards::{random, Kind};
 use outside::layout::MOST;
@@ -13,6 +13,7 @@ const FEWEST_BY_CHANCE: usize = 5;
 const USAGE: &str = "\
 board pack < TEXT > BLOCK     write a block from its text
 board show < BLOCK > TEXT     write a block's text (of a damaged one what can be read)
+board sheet [K] < BLOCK       print the last stage, or stage K, as the paper says it
 board make POSTS [SEED]       write the block of a board by chance
 
 The text of a board has a line `order ..` with the names in the order of
@@ -26,6 +27,8 @@ fn main() -> ExitCode {
     let done = match words[..] {
         ["pack"] => pack(),
         ["show"] => show(),
+        ["sheet"] => sheet(None),
+        ["sheet", word] => stage(word),
         ["make", posts] => make(posts, "1"),
         ["make", posts, seed] => make(posts, seed),
         _ => Err(USAGE.into()),
@@ -72,6 +75,21 @@ fn show() -> Result<ExitCode, String> {
     let shown = text::show(&input()?);
     output(shown.text.as_bytes())?;
     Ok(ExitCode::from(u8::from(!shown.whole)))
+}
+
+/// What the programs `sheet` and `stage` should print, from the independent
+/// implementation.
+fn sheet(stage: Option<u128>) -> Result<ExitCode, String> {
+    let printed = paper::sheet_text(&input()?, stage);
+    output(printed.unwrap_or_else(paper::refused_text).as_bytes())?;
+    Ok(ExitCode::SUCCESS)
+}
+
+fn stage(word: &str) -> Result<ExitCode, String> {
+    match paper::number(word.as_bytes()) {
+        Some(stage) => sheet(Some(stage)),
+        None => Err(format!("`{word}` is not a stage, a whole number\n")),
+    }
 }
 
 fn make(posts: &str, seed: &str) -> Result<ExitCode, String> {

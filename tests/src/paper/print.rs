@@ -1,0 +1,125 @@
+//! What the programs `sheet` and `stage` print.
+
+use super::{accepted, stage_allowed, Board, Drawing};
+use crate::reply::Refusal;
+
+/// The text of a block's stage: of the one asked for, or of the last.
+pub fn sheet_text(block: &[u8], stage: Option<u128>) -> Result<String, Refusal> {
+    let board = accepted(block)?;
+    let stage = match stage {
+        None => board.n,
+        // a stage too large for this machine's numbers is above any n, as the largest of them is
+        Some(stage) => stage.try_into().unwrap_or(usize::MAX),
+    };
+    stage_allowed(&board, stage)?;
+    Ok(text(&board, stage))
+}
+
+/// The word, n and the stage; then of each position up to it: position, name, x, y.
+fn text(board: &Board, stage: usize) -> String {
+    let drawing = Drawing::at_stage(board, stage);
+    let mut text = format!("sheet {} {stage}\n", board.n);
+    for position in 1..=stage {
+        let name = board.v(position);
+        let (x, y) = drawing.point(name);
+        text += &format!("{position} {name} {x} {y}\n");
+    }
+    text
+}
+
+/// The line of a refusal: the word, number, place.
+pub fn refused_text(refusal: Refusal) -> String {
+    format!("refused {} {}\n", refusal.number, refusal.place)
+}
+
+/// The most characters that a word for a stage has.
+const LONGEST_WORD: usize = 32;
+
+/// The number that a word says: one decimal digit or more, and nothing else.
+pub fn number(word: &[u8]) -> Option<u128> {
+    if word.is_empty() || word.len() > LONGEST_WORD {
+        return None;
+    }
+    let mut number = 0;
+    for character in word {
+        let digit = b"0123456789".iter().position(|digit| digit == character)?;
+        number = 10 * number + digit as u128;
+    }
+    Some(number)
+}
+
+#[cfg(test)]
+mod tests {
+    use super::*;
+    use crate::board::{d, t, Board};
+
+    fn refused(number: u16, place: u16) -> Result<String, Refusal> {
+        Err(Refusal { number, place })
+    }
+
+    /// As the paper prints it.
+    #[test]
+    fn the_sheet_of_d() {
+        let last = "sheet 5 5\n1 0 0 0\n2 1 6 0\n3 2 3 1\n4 3 3 2\n5 4 3 3\n";
+        assert_eq!(sheet_text(&d().block(), None), Ok(last.into()));
+        assert_eq!(sheet_text(&d().block(), Some(5)), Ok(last.into()));
+    }
+
+    /// The paper's cases 1 to 3, in the form of the sheet.
+    #[test]
+    fn earlier_stages_of_t_and_d() {
+        let three = "1 0 0 0\n2 1 2 0\n3 2 1 1\n";
+        let of_t = sheet_text(&t().block(), None);
+        assert_eq!(of_t, Ok(format!("sheet 3 3\n{three}")));
+        let of_d = sheet_text(&d().block(), Some(3));
+        assert_eq!(of_d, Ok(format!("sheet 5 3\n{three}")));
+        let four = "sheet 5 4\n1 0 0 0\n2 1 4 0\n3 2 2 1\n4 3 2 2\n";
+        assert_eq!(sheet_text(&d().block(), Some(4)), Ok(four.into()));
+    }
+
+    /// Lines go by position; the name stands beside it.
+    #[test]
+    fn names_are_not_positions() {
+        let order = vec![2, 0, 1];
+        let block = Board { order, ..t() }.block();
+        let lines = "sheet 3 3\n1 2 0 0\n2 0 2 0\n3 1 1 1\n";
+        assert_eq!(sheet_text(&block, None), Ok(lines.into()));
+    }
+
+    #[test]
+    fn no_such_stage_comes_after_all_that_is_wrong_with_the_block() {
+        for stage in [0, 2, 6, 65539, (1 << 32) + 3, (1 << 64) + 3] {
+            assert_eq!(sheet_text(&d().block(), Some(stage)), refused(15, 0));
+            assert_eq!(sheet_text(b"PGB", Some(stage)), refused(1, 0));
+        }
+        let order = vec![0, 1, 3, 2, 4];
+        let autumn = Board { order, ..d() }.block();
+        assert_eq!(sheet_text(&autumn, Some(6)), refused(13, 3));
+        assert_eq!(sheet_text(&autumn, None), refused(13, 3));
+    }
+
+    #[test]
+    fn the_line_of_a_refusal() {
+        let (number, place) = (13, 3);
+        assert_eq!(refused_text(Refusal { number, place }), "refused 13 3\n");
+    }
+
+    #[test]
+    fn a_word_of_digits_says_a_number() {
+        for (word, says) in [("0", 0), ("3", 3), ("003", 3), ("0000000005", 5)] {
+            assert_eq!(number(word.as_bytes()), Some(says));
+        }
+        assert_eq!(number(b"18446744073709551619"), Some((1 << 64) + 3));
+        let nines = [b'9'; LONGEST_WORD];
+        assert_eq!(number(&nines), Some(10u128.pow(32) - 1));
+    }
+
+    #[test]
+    fn no_other_word_does() {
+        for word in ["", "x", "3x", "-3", "+3", " 3", "3 ", "/", ":", "٣", "３"] {
+            assert_eq!(number(word.as_bytes()), None, "{word}");
+        }
+        assert_eq!(number(&[b'0'; LONGEST_WORD + 1]), None);
+        assert_eq!(number(b"3\xFF"), None);
+    }
+}

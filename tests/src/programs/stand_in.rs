@@ -1,0 +1,57 @@
+//! Stands in for the programs where the test program is tried alone: the
+//! plain linear implementation, printed.
+
+use crate::layout::{self, MOST};
+use crate::linear;
+use crate::reply::Refusal;
+use std::ffi::OsString;
+use std::fmt::Write as _;
+use std::io::{self, Read, Write};
+
+/// Do what the program that the first word names would do with the others.
+pub fn stand_in(mut words: impl Iterator<Item = OsString>) -> io::Result<()> {
+    let mut block = Vec::new();
+    let answer = match words.next() {
+        Some(name) if name == "stage" => match words.next().as_ref().and_then(stage) {
+            None => "usage: stage K < BLOCK\n".into(),
+            stage => {
+                read(&mut block)?;
+                printed(&block, stage)
+            }
+        },
+        _ => {
+            read(&mut block)?;
+            printed(&block, None)
+        }
+    };
+    io::stdout().write_all(answer.as_bytes())
+}
+
+/// No more is read than tells a block that is too long.
+fn read(block: &mut Vec<u8>) -> io::Result<usize> {
+    let enough = layout::length(MOST) + 1;
+    io::stdin().take(enough as u64).read_to_end(block)
+}
+
+fn stage(word: &OsString) -> Option<usize> {
+    let word = word.to_str()?;
+    let digits = !word.is_empty() && word.bytes().all(|byte| byte.is_ascii_digit());
+    (digits && word.len() <= 32).then(|| word.parse().unwrap_or(usize::MAX))
+}
+
+fn printed(block: &[u8], stage: Option<usize>) -> String {
+    let refused = |Refusal { number, place }| format!("refused {number} {place}\n");
+    sheet(block, stage).unwrap_or_else(refused)
+}
+
+fn sheet(block: &[u8], stage: Option<usize>) -> Result<String, Refusal> {
+    let mut buffer = [0; 2 * MOST];
+    let n = linear::check(block)?;
+    let count = linear::sheet(block, stage.unwrap_or(n.into()), &mut buffer)?;
+    let mut text = format!("sheet {n} {}\n", count / 2);
+    for (i, point) in buffer[..count.into()].chunks(2).enumerate() {
+        let name = layout::get(block, layout::order_at(i));
+        writeln!(text, "{} {name} {} {}", i + 1, point[0], point[1]).unwrap();
+    }
+    Ok(text)
+}
