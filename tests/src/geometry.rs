@@ -21,7 +21,7 @@ fn positions(board: &Board) -> Vec<usize> {
     position
 }
 
-/// The wires of stage k, with both ends among v1 to vk, by position counted from 0.
+/// The wires of stage k (M1), by position counted from 0.
 fn wires(board: &Board, k: usize) -> Vec<(usize, usize)> {
     let position = positions(board);
     let mut wires = Vec::new();
@@ -105,9 +105,9 @@ fn short(points: &[Point], (a, b): (usize, usize), (c, d): (usize, usize)) -> bo
     }
 }
 
-/// What is wrong with the sheet of a stage, if anything: the posts stand on
-/// different points of the grid 2k-4 wide and k-2 high, and no two wires meet
-/// except at a post they share.
+/// What is wrong with the sheet of a stage by D3, if anything: a post off the
+/// grid, two posts at one point, or two wires with a point in common that is
+/// not a post at which both end.
 pub fn stage_fault(board: &Board, sheet: &[u16]) -> Option<String> {
     let points = points(sheet);
     let k = points.len();

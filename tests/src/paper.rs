@@ -1,6 +1,7 @@
-//! The paper done literally: every step of the table in its order, every stage
-//! by moving whole groups. It is written to be held beside the paper, not for
-//! speed, and shares nothing but the limits with any other implementation.
+//! The rules of docs/RULES.md done literally: every step of the table in its
+//! order, every stage by moving whole groups. It is written to be held beside
+//! them, not for speed, and shares nothing but the limits with any other
+//! implementation.
 
 mod drawing;
 mod print;
@@ -16,7 +17,7 @@ pub fn check(block: &[u8]) -> Result<u16, Refusal> {
     accepted(block).map(|board| board.n as u16)
 }
 
-/// Write the sheet of a stage to the buffer: the count of entries written, or a refusal.
+/// Write the sheet of a stage to the buffer: how many entries that is, or a refusal.
 pub fn sheet(block: &[u8], stage: usize, buffer: &mut [u16]) -> Result<u16, Refusal> {
     let board = accepted(block)?;
     stage_allowed(&board, stage)?;
@@ -121,7 +122,7 @@ fn header(block: &[u8]) -> Result<usize, Refusal> {
     Ok(n)
 }
 
-/// Step 7: the names in positions 1 to n.
+/// Step 7: the order, a name for each position.
 fn order(block: &[u8], n: usize) -> Result<Vec<usize>, Refusal> {
     let mut order = Vec::new();
     for position in 1..=n {
@@ -162,7 +163,7 @@ fn lists(block: &[u8], degrees: &[usize]) -> Vec<Vec<usize>> {
     lists
 }
 
-/// The entry that follows `a` in a ring: the first entry follows the last.
+/// The entry that follows `a` in a ring, which goes on at its beginning (G1, G2).
 fn follower(ring: &[usize], a: usize) -> Option<usize> {
     let i = ring.iter().position(|&entry| entry == a)?;
     Some(ring[(i + 1) % ring.len()])
@@ -174,8 +175,8 @@ impl Board {
         self.order[position - 1]
     }
 
-    /// Step 9: each entry is below n, isn't the post itself, occurs once in its
-    /// list, and is returned.
+    /// Step 9 (G3): an entry is a name and another than the post's own, stands
+    /// in the list a single time, and is returned.
     fn rings(&self) -> Result<(), Refusal> {
         for u in 0..self.n {
             let list = &self.lists[u];
@@ -189,7 +190,8 @@ impl Board {
         Ok(())
     }
 
-    /// Step 10: whenever w follows v at u, u follows w at v.
+    /// Step 10 (G4): of two entries of u side by side, v and then w, the ring of v
+    /// has u right after w.
     fn triangles(&self) -> Result<(), Refusal> {
         for u in 0..self.n {
             let ring = &self.lists[u];
@@ -203,7 +205,7 @@ impl Board {
         Ok(())
     }
 
-    /// Step 11: v2 is a neighbour of v1, and vn follows v1 at v2.
+    /// Step 11 (G6): v1 has v2 in its list, and at v2 the entry after v1 is vn.
     fn outer_triangle(&self) -> Result<(), Refusal> {
         let (v1, v2, vn) = (self.v(1), self.v(2), self.v(self.n));
         if !self.lists[v1].contains(&v2) || follower(&self.lists[v2], v1) != Some(vn) {
@@ -243,8 +245,8 @@ impl Board {
         Ok(())
     }
 
-    /// The run of vk, read counter-clockwise, from left to right on the
-    /// contour. At k = n it is the whole ring, starting at v1.
+    /// The run of vk (O6): its earlier neighbours in the turn of the ring. Where
+    /// they are all of it, for vn, the first is v1.
     fn run(&self, k: usize) -> Vec<usize> {
         let ring = &self.lists[self.v(k)];
         let earlier = self.earlier(k);

@@ -35,9 +35,9 @@ counts! {
     triangles,
     /// Contours told by records, compared with a face.
     contours,
-    /// Orders compared with document 002's conditions: accepted, and they hold
-    /// at every stage; accepted and compared at some stages alone; refused, by
-    /// the condition that is broken first.
+    /// Orders compared with Chrobak and Nakano's conditions (X2): accepted, and
+    /// they hold at every stage; accepted and compared at some stages alone;
+    /// refused, by the condition that is broken first.
     kept,
     kept_at_some_stages,
     co1,
@@ -53,7 +53,7 @@ counts! {
 }
 
 impl Tally {
-    /// How many orders were compared with document 002's conditions.
+    /// How many orders were compared with Chrobak and Nakano's conditions.
     pub fn orders(&self) -> u64 {
         self.kept + self.kept_at_some_stages + self.co1 + self.co2 + self.co3
     }

@@ -68,7 +68,7 @@ impl Trial {
         }
     }
 
-    /// Compare the reply to any block with document 002's conditions.
+    /// Compare the reply to any block with Chrobak and Nakano's conditions (X2).
     pub fn conditions_of_block(&mut self, block: &[u8]) {
         let reply = self.tester.check(block);
         if passes_step_11(reply) {

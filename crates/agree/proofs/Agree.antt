@@ -1,4 +1,4 @@
--- Of blocks that pass 1 to 11: rows 12 and 13 and document 002's conditions agree, by wires and over the contours of the paper's own stages.
+-- Of blocks that pass 1 to 11: rows 12 and 13 and Chrobak and Nakano's conditions agree, by wires and over the contours of the stages.
 use mathlib.Core.Path.{_≡_, sym, ap, _∙_, subst, subst⁻¹}
 use mathlib.Core.List.{List}
 use Prim.Native.Nat.{ℕ, _≤_, _<_}

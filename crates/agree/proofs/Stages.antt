@@ -1,4 +1,4 @@
--- The contour of the paper's stage k writes C_k, where the order passes.
+-- The contour of stage k (S8) writes C_k, where the order passes.
 use mathlib.Core.Path.{_≡_, refl, ap, _∙_, subst, subst⁻¹}
 use mathlib.Core.List.{List, [], _∷_}
 use Prim.Native.Nat.{ℕ, _+_, _-_, _≤_}

@@ -21,11 +21,11 @@ version s = wordAt s versionAt
 abbrev pub posts : List ℕ → ℕ
 posts s = wordAt s postsAt
 
--- the names in positions 1 to n
+-- the order: a name for each position
 unfoldable pub order : List ℕ → List ℕ
 order s = wordsAt s orderAt (posts s)
 
--- degrees, for names 0 to n-1
+-- how long each list is, by name
 unfoldable pub degrees : List ℕ → List ℕ
 degrees s = wordsAt s (degreesAt (posts s)) (posts s)
 
@@ -34,18 +34,18 @@ unfoldable pub listsFrom : List ℕ → ℕ → List ℕ → List (List ℕ)
 listsFrom s i [] = []
 listsFrom s i (d ∷ ds) = wordsAt s i d ∷ listsFrom s (i + 2 * d) ds
 
--- neighbour lists, for names 0 to n-1
+-- each post's list, by name
 unfoldable pub lists : List ℕ → List (List ℕ)
 lists s = listsFrom s (listsAt (posts s)) (degrees s)
 
--- the sum that stands at the end, and the sum of all earlier bytes
+-- the sum that stands at the end, and what the bytes before it add up to (F4)
 abbrev pub statedSum : List ℕ → ℕ
 statedSum s = wordAt s (sumAt (posts s))
 
 abbrev pub earlierSum : List ℕ → ℕ
 earlierSum s = wrapped (take (sumAt (posts s)) s)
 
--- the right mark, version, size and sum
+-- what steps 1 to 6 ask for: mark, version, n, length and sum are right
 pub record Framed (s : List ℕ) : Type 0 where
   pub mark-right : take 3 s ≡ mark
   pub version-right : version s ≡ 1
@@ -66,10 +66,10 @@ pub record Headed (s : List ℕ) (n : ℕ) : Type 0 where
 unfoldable pub marked : List ℕ → Bool
 marked s = eqb (getD s 0 0) 0x50 && (eqb (getD s 1 0) 0x47 && eqb (getD s 2 0) 0x42)
 
--- the order entry in position k is n or more, or repeats an earlier one
+-- N7: what stands in position k is no name, or a name that came before
 unfoldable pub badEntry : ℕ → List ℕ → ℕ → Bool
 badEntry n vs k = leb n (post vs k) || mem (earlier vs k) (post vs k)
 
--- the degree of u is below 2 or above n-1
+-- N8: the degree of u is out of its range, 2 to n-1
 unfoldable pub badDegree : ℕ → List ℕ → ℕ → Bool
 badDegree n ds u = ltb (getD ds u 0) 2 || ltb (n - 1) (getD ds u 0)

@@ -88,7 +88,7 @@ pub fn is_marked(s: &[u8]) -> bool
     s[2] == 0x42
 }
 
-// The first position whose entry is n or more or repeats an earlier one, or n + 1. The names seen so far are marked.
+// The first position at fault (N7), or n + 1. The names seen so far are marked.
 pub fn first_bad_entry(vs: &[u16], marks: &mut [u8]) -> usize
     requires { ⌜ (length (now vs) ≤ length (now marks)) × (length (now vs) ≤ limit) × ((a : ℕ) → getD (now marks) a 0 ≡ 0) ⌝ }
     ensures { λ r. ⌜ r ≡ first 1 (length (now (vs .entry))) (badEntry (length (now (vs .entry))) (now (vs .entry))) ⌝ }
@@ -109,7 +109,7 @@ pub fn first_bad_entry(vs: &[u16], marks: &mut [u8]) -> usize
     k
 }
 
-// The lowest name whose degree is below 2 or above n-1, or n.
+// The lowest name whose degree is out of its range (N8), or n.
 pub fn first_bad_degree(ds: &[u16]) -> usize
     requires { ⌜ (1 ≤ length (now ds)) × (length (now ds) ≤ limit) ⌝ }
     ensures { λ r. ⌜ r ≡ first 0 (length (now (ds .entry))) (badDegree (length (now (ds .entry))) (now (ds .entry))) ⌝ }

@@ -1,4 +1,4 @@
-// The blocks of the paper's cases, byte by byte: the very ones that the table of starred cases speaks of.
+// The blocks of the cases E1 to E11, byte by byte: the very ones that the table of starred cases speaks of.
 ghost use mathlib.Core.Path.{_≡_};
 ghost use mathlib.Core.List.{[], _∷_};
 ghost use Rattle.rings.specs.Boards.{orderD};
@@ -118,7 +118,7 @@ pub fn board_d() -> [u8; 65]
     ]
 }
 
-// Case 5: board D with order 0 1 3 2 4, which has the same sum.
+// Case 5, the autumn block: board D with posts 2 and 3 in each other's place, which leaves the sum as it is.
 pub fn autumn() -> [u8; 65]
     ensures { λ r. ⌜ r ≡ D (0 ∷ 1 ∷ 3 ∷ 2 ∷ 4 ∷ []) 285 ⌝ }
 {
@@ -191,7 +191,7 @@ pub fn autumn() -> [u8; 65]
     ]
 }
 
-// Case 11: board D with order 0 1 2 2 4 and the sum 284.
+// Case 11: board D with post 2 in position 4 too, and the sum 284.
 pub fn twice() -> [u8; 65]
     ensures { λ r. ⌜ r ≡ D (0 ∷ 1 ∷ 2 ∷ 2 ∷ 4 ∷ []) 284 ⌝ }
 {

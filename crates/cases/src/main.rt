@@ -1,4 +1,4 @@
-// The paper's numbered cases, unstarred ones included, each run and printed; and what the bench program prints for T, for case 5 and for an
+// The cases E1 to E11 of docs/RULES.md, each run and printed; and what the bench program prints for T, for the autumn block and for an
 // empty input.
 mod boards;
 

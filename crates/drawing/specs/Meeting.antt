@@ -8,7 +8,7 @@ pub record Places : Type 0 where
   pub x : ℕ → ℕ
   pub y : ℕ → ℕ
 
--- two whole numbers over one positive whole number: the point (X / d, Y / d). A point of a segment between posts has none below zero.
+-- M2: the point (X / d, Y / d), with d above 0. A point of a segment between posts has no coordinate below zero.
 pub record Point : Type 0 where
   pub X : ℕ
   pub Y : ℕ
@@ -28,7 +28,7 @@ pub record At (s : Places) (z : ℕ) (P : Point) : Type 0 where
   pub isX : P .X ≡ P .d * s .x z
   pub isY : P .Y ≡ P .d * s .y z
 
--- two segments meet: some point lies on both
+-- M3: the segments have a point in common
 abbrev pub Meet : Places → ℕ → ℕ → ℕ → ℕ → Type 0
 Meet s a b c e = (P : Point) × On s a b P × On s c e P
 
@@ -39,12 +39,12 @@ End z a b = (z ≡ a) ⊎ (z ≡ b)
 abbrev pub Same : ℕ → ℕ → ℕ → ℕ → Type 0
 Same a b c e = ((a ≡ c) × (b ≡ e)) ⊎ ((a ≡ e) × (b ≡ c))
 
--- no two different wires meet except at a post they share: each point that lies on both is where a shared post stands
+-- each point that lies on two wires, if they are not the same one, is where a post stands that is an end of both (D3)
 abbrev pub NoneMeet : Places → (ℕ → ℕ → Type 0) → Type 0
 NoneMeet s Wire =
     (a b c e : ℕ) → Wire a b → Wire c e → ¬ (Same a b c e) → (m : Meet s a b c e) → (z : ℕ) × End z a b × End z c e × At s z (m .0)
 
--- the posts stand on different points of the grid so wide and so high
+-- each post is within this width and height, and no two are at one point
 pub record OnGrid (s : Places) (Post : ℕ → Type 0) (width height : ℕ) : Type 0 where
   pub inside : (u : ℕ) → Post u → (s .x u ≤ width) × (s .y u ≤ height)
   pub different : (u w : ℕ) → Post u → Post w → s .x u ≡ s .x w → s .y u ≡ s .y w → u ≡ w

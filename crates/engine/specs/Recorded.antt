@@ -8,7 +8,7 @@ use Rattle.placing.specs.declared.Standing.the-variants.{Waiting, OnContour, Co
 use Rattle.placing.specs.declared.Record.{Record}
 use Rattle.order.specs.Opens.{before}
 
--- a waiting post has x = y = 0; one that nobody covers stands on the contour
+-- 0 for both numbers where the post waits (R2); a post that nobody covers stands on the contour
 abbrev pub recordBy : (rank : List ℕ) → ℕ → (xs ys cover left right : List ℕ) → ℕ → Record
 recordBy rank k xs ys cover left right u =
     cond (before rank (k + 1) u)

@@ -36,7 +36,7 @@ pub fn place_next(
     contour::place_over(vs[k], run.first, run.many, ys, off, cover, left, right);
 }
 
-// Stage 3: v1 at (0,0), v3 at (1,1), v2 at (2,0).
+// Stage 3, with the three corners where S4 puts them.
 fn start(
     v1: u16,
     v2: u16,

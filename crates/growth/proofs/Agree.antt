@@ -1,5 +1,5 @@
--- The rule of 01 and the conditions of 002 agree: in a triangulated plane graph an order is canonical by the rule per position exactly if co1 to co3
--- hold at every stage; and C_k is then a list from v1 to v2, over which they can be written.
+-- O2 to O4 and Chrobak and Nakano's conditions agree: in a triangulated plane graph an order is canonical by the rule per position exactly if each
+-- stage keeps co1 to co3; and C_k is then a list from v1 to v2, over which they can be written.
 use mathlib.Core.Logic.{_↔_, inr}
 use mathlib.Core.List.{List}
 use Prim.Native.Nat.{ℕ}

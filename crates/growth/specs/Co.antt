@@ -1,4 +1,4 @@
--- Document 002's conditions co1 to co3, over rings. G_k is the graph induced by the posts in positions 1 to k. Its faces are made of the whole
+-- Chrobak and Nakano's conditions co1 to co3 (docs/RULES.md: X2), over rings. G_k is v1 to vk and the wires between them. Its faces are made of the whole
 -- graph's triangles, joined across each wire that G_k lacks. All of it is meant for a triangulated plane graph (rings: Plane): on a torus triangles
 -- joined so need not be a face, and the seven-post torus would keep co1 to co3.
 use Prim.Native.Nat.{ℕ, suc, _≤_, _<_}
@@ -83,10 +83,10 @@ NextOutside G vs k = k < length vs → Outside G vs k (post vs (suc k))
 
 -- co1, co2 and co3 at stage k
 pub record Co (G : List (List ℕ)) (vs : List ℕ) (k : ℕ) : Type 0 where
-  -- co1: G_k is 2-connected, and all its internal faces are triangles
+  -- co1: G_k holds together, even without any one of its posts, and each face but the exterior one is a triangle
   pub co1-two-connected : TwoConnected G (take k vs)
   pub co1-triangulated : Triangulated G vs k
-  -- co2: C_k contains the wire v1 v2 (it follows from the outer triangle rule, and is stated as the document states it)
+  -- co2: v1 v2 is a wire of C_k (it follows from G6, and is stated all the same, as Chrobak and Nakano do)
   pub co2-base : ContourWire G vs k (post vs 1) (post vs 2) ⊎ ContourWire G vs k (post vs 2) (post vs 1)
   -- co3: below n, the next post lies in the exterior face, and its neighbours in G_k are on C_k
   pub co3-outside : NextOutside G vs k
@@ -100,7 +100,7 @@ pub record CoOver (G : List (List ℕ)) (vs : List ℕ) (k : ℕ) (K : List ℕ)
   pub co3-outside : NextOutside G vs k
   pub co3-near : k < length vs → (a : ℕ) → In a (take k vs) → In a (ring G (post vs (suc k))) → In a K
 
--- document 002's canonical order of a triangulated plane graph: it names each post once, and co1 to co3 hold at each stage from 3 to n
+-- a canonical order by Chrobak and Nakano's conditions: it names each post once, and they hold at each stage from 3 to n
 pub record CoOrder (G : List (List ℕ)) (vs : List ℕ) : Type 0 where
   pub all : length vs ≡ length G
   pub below : (a : ℕ) → In a vs → a < length G

@@ -91,7 +91,7 @@ refusals Stage e = omega arith
 refusals Room e = omega arith
 refusals Name e = omega arith
 
--- ---- the paper's table gives what the table without 14 gives
+-- ---- the table with 14 gives what the one without it gives
 false-and : (x y : Bool) → (x ≡ true → y ≡ false) → x && y ≡ false
 false-and true y f = f refl
 false-and false y f = refl
@@ -140,7 +140,7 @@ module _ (s : List ℕ) (h : NoneApplies blockRows s) where
         (λ p. given-skip s answer r (P ++ after) (passed k l b p) ∙ from-position m (suc k) (omega arith) (next k b p))
         ∙ ap (λ (l : List Row). given l s answer) (sym (append-assoc (positionRows k) Q after))
 
--- the paper's rule per position applies nowhere exactly if the one without 14 does not
+-- the rule per position with 14 applies nowhere exactly if the one without it does not
 module _ (s : List ℕ) (h : NoneApplies blockRows s) where
   alike : given (paperFittingRows s) s posts ≡ given (fittingRows s) s posts
   alike =

@@ -19,7 +19,7 @@ abbrev pub replyOf : Answer → Reply ℕ
 replyOf (Accepted n) = accepted n
 replyOf (Refused r) = refused (numberOf r) (placeOf r)
 
--- The first row that applies is given, and given only then; if none applies, the call is accepted.
+-- L1: the first row that applies refuses the call; if none does, it is accepted.
 unfoldable pub given : {A : Type 0} → List Row → List ℕ → (List ℕ → A) → Reply A
 given [] s answer = accepted (answer s)
 given (r ∷ rows) s answer = elim (r .when s) [ true ↦ refused (r .number) (r .place s) | false ↦ given rows s answer ]

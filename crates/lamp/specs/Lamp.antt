@@ -135,7 +135,7 @@ triangleRows = triangleRow ∷ []
 abbrev pub outerRows : List Row
 outerRows = outerRow ∷ []
 
--- the rule per position: at position k (14 is retired: Retired.antt); and at positions 3, 4, up to n in turn
+-- the rule per position: at position k (14 is retired: Retired.antt); and at each position from 3 to n, one after the other (L3)
 unfoldable pub positionRows : ℕ → List Row
 positionRows k = fewRow k ∷ brokenRow k ∷ []
 

@@ -1,4 +1,4 @@
--- The refusals that the services give, each told by the paper's number and its place: a position, a name, or 0.
+-- The refusals that the services give, each told by its number (docs/RULES.md: N) and its place: a position, a name, or 0.
 use Prim.Native.Nat.{ℕ}
 use Rattle.lamp.specs.declared.Told.{Told}
 use Rattle.lamp.specs.declared.Refusal.{Refusal}

@@ -1,4 +1,4 @@
--- Number 14, retired: the paper's table with its row 14, for the statement that no list of bytes is answered 14.
+-- Number 14, retired (docs/RULES.md: N14, X1): the table with a row 14, for the statement that no list of bytes is answered 14.
 use Prim.Native.Nat.{ℕ, _-_}
 use mathlib.Core.Path.{_≡_}
 use mathlib.Core.Logic.{_≢_}
@@ -17,12 +17,12 @@ use Rattle.lamp.specs.declared.Refusal.{Refusal}
 abbrev pub retired : ℕ
 retired = 14
 
--- the paper's row 14 at position k: below n, no later neighbour
+-- the row 14 at position k: O4 is broken there
 abbrev pub retiredRow : ℕ → Row
 retiredRow k =
     record { number = retired; when = λ s. ltb k (posts s) && not (oneLater (lists s) (later (order s) k) (post (order s) k)); place = λ s. k }
 
--- the paper's own rule per position, 12 and 13 and then 14; and its table for check
+-- the rule per position with 14 after 12 and 13; and check's table with it
 abbrev pub paperPositionRows : ℕ → List Row
 paperPositionRows k = positionRows k ++ retiredRow k ∷ []
 
@@ -38,7 +38,7 @@ NoneIs number [] = Unit {0}
 NoneIs number (r ∷ rows) = (r .number ≢ number) × NoneIs number rows
 
 pub record Retirement : Type 1 where
-  -- No list of bytes is answered 14 by the paper's table: not by check, nor by sheet and post, whose rows follow, whatever they answer otherwise.
+  -- No list of bytes is answered 14 by the table that has the row: not by check, nor by sheet and post, whose rows follow, whatever they answer otherwise.
   pub check : {A : Type 0} (answer : List ℕ → A) (s : List ℕ) (place : ℕ) → given (paperRows s) s answer ≢ refused retired place
   pub sheet : {A : Type 0} (answer : List ℕ → A) (s : List ℕ) (k room place : ℕ)
       → given (paperRows s ++ (stageRows k ++ roomRows k room)) s answer ≢ refused retired place

@@ -49,7 +49,7 @@ fn tell(number: u16, place: u16) -> Told
 }
 
 impl Refusal {
-    // The paper's number and place.
+    // Its number in the table (docs/RULES.md: N), and its place.
     pub fn told(self) -> Told
         ensures { λ r. ⌜ (r .number ≡ numberOf self) × (r .place ≡ placeOf self) ⌝ }
     {

@@ -30,7 +30,7 @@ rest placed (x ∷ l) = cond (mem placed x) (rest placed l) (x ∷ l)
 unfoldable pub leads : List ℕ → List ℕ → Bool
 leads placed l = not (anyOf (mem placed) (rest placed l))
 
--- they stand side by side in v's ring, as one run: read from some place on, they lead
+-- O3: read from some place of v's ring on, the placed entries lead
 unfoldable pub oneRun : List (List ℕ) → List ℕ → ℕ → Bool
 oneRun G placed v = some 0 (length (ring G v)) (λ s. leads placed (from s (ring G v)))
 

@@ -52,7 +52,7 @@ pub inner-run : (p : ℕ) (M : List ℕ) (q : ℕ) → inner (p ∷ (M ++ q ∷ 
 inner-run p M q = take-at M (q ∷ []) (suc (length (M ++ q ∷ [])) - 2) (omega (arith, length-append M (q ∷ [])))
 
 -- ---- the step
--- From stage t to v, a new post: its run w_p to w_q is p ∷ (M ++ q ∷ []), a stretch of the contour, and v takes the place of M there. The run
+-- From stage t to v, a new post: its run is p ∷ (M ++ q ∷ []), a stretch of the contour, and v takes the place of M there. The run
 -- is the neighbours of v that are placed. `old` and `now` are the contour's invariant before and after, from v1 to v2.
 pub record Step (G : List (List ℕ)) (t : Stage) (v : ℕ) : Type 0 where
   pub X : List ℕ

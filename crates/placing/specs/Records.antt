@@ -1,4 +1,4 @@
--- A post's record at a stage, and the entries of the sheet buffer.
+-- What a stage tells: a post's record (R1 to R5), and the entries of its sheet (R6).
 use Prim.Native.Nat.{ℕ}
 use mathlib.Core.Bool.{cond}
 use mathlib.Core.List.{List, [], _∷_, flatMap}
@@ -9,7 +9,7 @@ use Rattle.placing.specs.declared.Standing.{Standing}
 use Rattle.placing.specs.declared.Standing.the-variants.{Waiting, OnContour, Covered}
 use Rattle.placing.specs.declared.Record.{Record}
 
--- the neighbours of u on a contour. The left neighbour of its first post, v1, is given as that post, and so the right one of its last, v2
+-- the posts beside u on a contour (R3). Its first post, v1, counts as its own left neighbour, and its last, v2, as its own right one
 unfoldable pub leftOf : List ℕ → ℕ → ℕ
 leftOf [] u = u
 leftOf (a ∷ []) u = u
@@ -24,11 +24,11 @@ unfoldable pub standing : Stage → ℕ → Standing
 standing t u =
     cond (mem (t .contour) u) (OnContour (leftOf (t .contour) u) (rightOf (t .contour) u)) (cond (mem (t .placed) u) (Covered (t .cover u)) Waiting)
 
--- a waiting post has x = y = 0
+-- R2: where a post waits, both numbers are 0
 unfoldable pub recordOf : Stage → ℕ → Record
 recordOf t u =
     cond (mem (t .placed) u) (record { x = t .x u; y = t .y u; standing = standing t u }) (record { x = 0; y = 0; standing = Waiting })
 
--- x then y of v1, then of v2, up to vk
+-- R6: two entries for each placed post in its turn, the column before the height
 unfoldable pub entriesOf : Stage → List ℕ
 entriesOf t = flatMap (λ u. t .x u ∷ t .y u ∷ []) (t .placed)

@@ -8,8 +8,8 @@ use Rattle.words.specs.Lists.{mem, lastOf}
 use Rattle.words.specs.Positions.{post}
 use Rattle.order.specs.Order.{run}
 
--- A stage: v1 to vk; the contour from left to right; and by name, the group of a contour post, the places, and of a covered post the one
--- whose placing covered it.
+-- A stage: the posts placed, v1 to vk; the contour, its left end first; and by name: the group of a contour post, the places, and which post
+-- covered a covered one (R4).
 pub record Stage : Type 0 where
   pub placed : List ℕ
   pub contour : List ℕ
@@ -18,7 +18,7 @@ pub record Stage : Type 0 where
   pub y : ℕ → ℕ
   pub cover : ℕ → ℕ
 
--- Stage 3: v1 at (0,0), v3 at (1,1), v2 at (2,0). The contour is v1, v3, v2. Each post's group holds only itself.
+-- Stage 3 (S4): the first three posts in their corners, v3 between the others on the contour, and each alone in its group.
 unfoldable pub third : ℕ → ℕ → ℕ → Stage
 third v1 v2 v3 =
     record {
@@ -39,11 +39,11 @@ unfoldable pub onFrom : ℕ → List ℕ → List ℕ
 onFrom a [] = []
 onFrom a (x ∷ l) = cond (eqb x a) (x ∷ l) (onFrom a l)
 
--- the run w_p to w_q without its ends: w_(p+1) to w_(q-1)
+-- the middle posts of a run (S5): all but its first and its last
 abbrev pub inner : List ℕ → List ℕ
 inner w = take (length w - 2) (drop 1 w)
 
--- From stage k to k+1, with the run w of the new post v on the contour.
+-- S5 to S8: the stage that follows t, where w is the run of the new post v.
 unfoldable pub placeOver : Stage → List ℕ → ℕ → Stage
 placeOver t w v =
     let p = post w 1 in
@@ -52,7 +52,7 @@ placeOver t w v =
     let ones = flatMap (t .group) (inner w) in
     let twos = flatMap (t .group) (onFrom q (t .contour)) in
     let moved : ℕ → ℕ = λ u. t .x u + (cond (mem ones u) 1 0 + cond (mem twos u) 2 0) in
-    -- w_p now at (xl, yl) and w_q at (xr, yr)
+    -- where the run's two ends have come to (S7)
     let xl = moved p in
     let yl = t .y p in
     let xr = moved q in

@@ -21,7 +21,7 @@ pub struct Record {
     pub standing: Standing,
 }
 
-// The first 2k entries of the buffer become x then y of v1, then of v2, up to vk. Entries beyond stay as they were.
+// The first 2k entries of the buffer become the sheet of stage k (R6); the others are not touched (R7).
 pub fn write_sheet(vs: &[u16], k: usize, xs: &[u16], ys: &[u16], buffer: &mut [u16])
     requires { ⌜ (k ≤ length (now vs)) × (k ≤ limit) × (2 * k ≤ length (now buffer))
         × ((i : ℕ) → i < k → (getD (now vs) i 0 < length (now xs)) × (getD (now vs) i 0 < length (now ys))) ⌝ }

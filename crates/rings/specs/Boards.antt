@@ -1,4 +1,4 @@
--- The paper's boards: an order, and the neighbour lists by name.
+-- Boards T and D of docs/RULES.md: an order, and the neighbour lists by name.
 use Prim.Native.Nat.{ℕ}
 use mathlib.Core.List.{List, [], _∷_}
 

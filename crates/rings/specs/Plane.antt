@@ -12,7 +12,7 @@ use Rattle.rings.specs.Rings.{ring, around}
 abbrev pub Follows : List (List ℕ) → ℕ → ℕ → ℕ → Type 0
 Follows G u a b = (X Y : List ℕ) × (around (ring G u) ≡ X ++ a ∷ b ∷ Y)
 
--- u can be reached from v1 along wires
+-- wires lead from v1 to u (G5)
 pub data Reached (G : List (List ℕ)) (v1 : ℕ) : ℕ → Type 0 where
   here : Reached G v1 v1
   along : {u w : ℕ} → Reached G v1 u → In w (ring G u) → Reached G v1 w
@@ -29,7 +29,7 @@ SameTriangle a b c u v w = ((u ≡ a) × (v ≡ b) × (w ≡ c)) ⊎ (((u ≡ b)
 abbrev pub OuterTriangle : ℕ → ℕ → ℕ → ℕ → ℕ → ℕ → Type 0
 OuterTriangle v1 v2 vn u v w = SameTriangle v2 v1 vn u v w
 
--- the lists form a triangulated plane graph with the outer triangle v1, v2, vn
+-- G7: the rings of a triangulated plane board, with the bottom wire v1 v2 and vn as the third outer post
 pub record Plane (G : List (List ℕ)) (v1 v2 vn : ℕ) : Type 0 where
   -- Rings
   pub below : (u v : ℕ) → u < length G → In v (ring G u) → v < length G

@@ -26,21 +26,21 @@ allNext p [] = true
 allNext p (x ∷ []) = true
 allNext p (x ∷ y ∷ l) = p x y && allNext p (y ∷ l)
 
--- b follows a at u: b is the next entry after a in u's ring
+-- b follows a at u (G2): going around u's list, b comes right after a
 unfoldable pub follows : List (List ℕ) → ℕ → ℕ → ℕ → Bool
 follows G u a b = next a b (around (ring G u))
 
--- Rings, of the entry v of u's list: it is below n, isn't the post itself and occurs once in the list; and u is in v's list
+-- G3, of the entry v of u's list: it is a name, another than u, and stands in this list a single time; and v's list has u
 unfoldable pub entryRule : List (List ℕ) → ℕ → ℕ → Bool
 entryRule G u v = ltb v (length G) && (not (eqb v u) && (eqb (count (eqb v) (ring G u)) 1 && mem (ring G v) u))
 
 unfoldable pub ringRule : List (List ℕ) → ℕ → Bool
 ringRule G u = allOf (entryRule G u) (ring G u)
 
--- Triangles, at u: whenever w follows v at u, u follows w at v
+-- G4, at u: of two entries side by side, v and then w, the ring of v has u right after w
 unfoldable pub triangleRule : List (List ℕ) → ℕ → Bool
 triangleRule G u = allNext (λ v w. follows G v w u) (around (ring G u))
 
--- Outer triangle: v2 is a neighbour of v1, and vn follows v1 at v2
+-- G6: v1 has v2 in its list, and at v2 the entry after v1 is vn
 unfoldable pub outerRule : List (List ℕ) → ℕ → ℕ → ℕ → Bool
 outerRule G v1 v2 vn = mem (ring G v1) v2 && follows G v2 v1 vn

@@ -72,7 +72,7 @@ fn breaks(ents: &[u16], at: &[u16], u: usize, v: u16) -> bool
     )
 }
 
-// The lowest name whose list has an entry that breaks the ring rule, or n.
+// The lowest name with an entry in its list that breaks G3, or n.
 pub fn first_bad_ring(ents: &[u16], at: &[u16]) -> usize
     requires { ⌜ Cuts (now at) (now ents) × (1 ≤ length (now at)) × (length (now at) ≤ limit + 1) ⌝ }
     ensures { λ r. ⌜ r ≡ first 0 (length (now (at .entry)) - 1) (λ u. not (ringRule (held (now (at .entry)) (now (ents .entry))) u)) ⌝ }
@@ -178,7 +178,7 @@ pub fn first_bad_triangle(ents: &[u16], at: &[u16]) -> usize
     }
 }
 
-// The outer triangle: v2 is a neighbour of v1, and vn follows v1 at v2.
+// G6: v1 has v2 in its list, and at v2 the entry after v1 is vn.
 pub fn is_outer(ents: &[u16], at: &[u16], v1: u16, v2: u16, vn: u16) -> bool
     requires { ⌜ Cuts (now at) (now ents) × (length (now at) ≤ limit + 1) ⌝ }
     ensures { λ r. ⌜ r ≡ outerRule (held (now (at .entry)) (now (ents .entry))) v1 v2 vn ⌝ }

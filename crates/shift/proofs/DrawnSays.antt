@@ -28,7 +28,7 @@ module _ {t : Stage} {C : List ℕ} {B : Build C} (D : Drawn t B) where
   pub turns : Good (placesOf t) B
   turns = good (placesOf t) (D .g) B (D .laid .kept)
 
-  -- no two different wires meet except at a post they share
+  -- two wires have no point in common but a post at which both end
   pub drawn-apart : NoneMeet (placesOf t) (λ a b. Built B a b ⊎ Built B b a)
   drawn-apart = none-meet (placesOf t) B turns
 
@@ -39,7 +39,7 @@ module _ {t : Stage} {C : List ℕ} {B : Build C} (D : Drawn t B) where
   pub drawn-within : (u : ℕ) → In u (t .placed) → t .x u + t .y u + 4 ≤ 2 * length (t .placed)
   drawn-within u h = omega (arith, D .laid .bounds u (D .placed u h) .1, D .wide)
 
-  -- different points of the grid 2k - 4 wide and k - 2 high
+  -- no column beyond 2k - 4, no height beyond k - 2, and no point for two posts
   pub grid : OnGrid (placesOf t) (λ u. In u (t .placed)) (2 * length (t .placed) - 4) (length (t .placed) - 2)
   grid =
       record {

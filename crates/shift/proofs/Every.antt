@@ -77,7 +77,7 @@ module _ (G : List (List ℕ)) (vn : ℕ) (vs : List ℕ) (P : Plane G (post vs 
     pub within-at : (u : ℕ) → In u (take k vs) → t .x u + t .y u + 4 ≤ 2 * k
     within-at u a = let c = count-at in omega (arith, drawn-within drawn-at u (rw placed-at a))
 
-    -- different points of the grid 2k - 4 wide and k - 2 high
+    -- no column beyond 2k - 4, no height beyond k - 2, and no point for two posts
     pub grid-at : OnGrid (placesOf t) (λ u. In u (take k vs)) (2 * k - 4) (k - 2)
     grid-at =
         record {
@@ -85,7 +85,7 @@ module _ (G : List (List ℕ)) (vn : ℕ) (vs : List ℕ) (P : Plane G (post vs 
           different = λ u w a b. grid drawn-at .different u w (rw placed-at a) (rw placed-at b);
         }
 
-    -- no two different wires meet except at a post they share
+    -- two wires have no point in common but a post at which both end
     pub no-short-at : NoneMeet (placesOf t) (Wire G (take k vs))
     no-short-at a b c e f g = drawn-apart drawn-at a b c e (wires-at a b (f .0) (f .1) (f .2)) (wires-at c e (g .0) (g .1) (g .2))
 
@@ -136,7 +136,7 @@ module _ (G : List (List ℕ)) (vn : ℕ) (vs : List ℕ) (P : Plane G (post vs 
           right = rw e (right-moves G t v S T);
         }
 
-    -- a post already standing keeps its height, never moves left, and moves right by at most two columns
+    -- a post that stands is as high as before, and 0, 1 or 2 columns further right
     pub moves-at : (u : ℕ) → In u (take k vs) → (stage G (take (k + 1) vs) .y u ≡ stage G (take k vs) .y u)
         × (stage G (take k vs) .x u ≤ stage G (take (k + 1) vs) .x u) × (stage G (take (k + 1) vs) .x u ≤ stage G (take k vs) .x u + 2)
     moves-at u a =

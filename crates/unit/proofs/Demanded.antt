@@ -1,4 +1,4 @@
--- The three demands, proved of the unit that the paper describes; and that no other replies meet them.
+-- The three demands, proved of the unit that docs/RULES.md describes; and that no other replies meet them.
 use Prim.Native.Nat.{ℕ, _*_}
 use mathlib.Core.Path.{_≡_, refl, sym, ap, _∙_, subst}
 use mathlib.Core.List.{List, _++_}

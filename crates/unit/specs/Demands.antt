@@ -1,4 +1,4 @@
--- The three demands, as the teacher wrote them, of any unit with the three services.
+-- The three demands (docs/RULES.md: D1 to D3), of any unit with the three services.
 use Prim.Native.Nat.{ℕ, _+_, _*_, _-_, _≤_, _<_}
 use mathlib.Core.Path.{_≡_}
 use mathlib.Core.Logic.{_↔_}
@@ -26,7 +26,7 @@ pub record Services : Type 0 where
   pub buffer : List ℕ → ℕ → List ℕ → List ℕ
   pub post : List ℕ → ℕ → ℕ → Reply Record
 
--- the unit that the paper describes
+-- the unit that docs/RULES.md describes
 abbrev pub thePaper : Services
 thePaper = record { check = checkReply; sheet = sheetReply; buffer = bufferAfter; post = postReply }
 
@@ -36,31 +36,31 @@ Accepted {A} r = (a : A) × (r ≡ accepted a)
 abbrev pub Refused : {A : Type 0} → Reply A → Type 0
 Refused r = (number place : ℕ) × (r ≡ refused number place)
 
--- ---- 1. Every input gets a defined reply: the one that the table fixes (lamp/specs/Given.antt: Fixed).
+-- ---- D1. Whatever is handed in, the reply is the one that the table fixes (lamp/specs/Given.antt: Fixed).
 
 pub record Demand1 (U : Services) : Type 0 where
-  -- the unit accepts or gives the refusal and place the paper fixes, in its order
+  -- accepted, or refused with number and place of the first row that applies (L1 to L4)
   pub check : (s : List ℕ) → Fixed (checkRows s) s (posts s) (U .check s)
   pub sheet : (s : List ℕ) (k : ℕ) (b : List ℕ) → Fixed (sheetRows s k (length b)) s (2 * k) (U .sheet s k b)
   pub post : (s : List ℕ) (k u : ℕ) → Fixed (postRows s k u) s (recordOf (stageAt k s) u) (U .post s k u)
-  -- a refused call changes nothing in the sheet buffer
+  -- after a refusal the buffer is as it was lent (L5)
   pub unchanged : (s : List ℕ) (k : ℕ) (b : List ℕ) → Refused (U .sheet s k b) → U .buffer s k b ≡ b
 
--- ---- 2. Accepted exactly when its lists form a triangulated plane graph with the stated outer triangle and its order is canonical.
+-- ---- D2. Sound: the rings are a triangulated plane board (G7), with v1, v2 and vn outside as G6 says, and the order is canonical (O5).
 
 abbrev pub Sound : List ℕ → Type 0
 Sound s = Plane (lists s) (post (order s) 1) (post (order s) 2) (post (order s) (posts s)) × Canonical (lists s) (order s)
 
 pub record Demand2 (U : Services) : Type 0 where
-  -- a block with the right mark, version, size and sum is accepted exactly when ..
+  -- of the blocks that pass 1 to 6 the sound ones are accepted, and no others
   pub exactly : (s : List ℕ) → Framed s → Accepted (U .check s) ↔ Sound s
-  -- any other block is refused
+  -- and all the rest are refused
   pub others : (s : List ℕ) → ¬ (Framed s × Sound s) → Refused (U .check s)
-  -- at each stage every post then stands where the shift method puts it: on the sheet, entries beyond 2k as they were; and in its record
+  -- a sheet has the places of the shift method (S4 to S8), and from entry 2k on what the buffer had (R7); a record has its post's place
   pub stands : (s : List ℕ) (k : ℕ) (b : List ℕ) → Accepted (U .sheet s k b) → U .buffer s k b ≡ entriesOf (stageAt k s) ++ drop (2 * k) b
   pub recorded : (s : List ℕ) (k u : ℕ) → Accepted (U .post s k u) → U .post s k u ≡ accepted (recordOf (stageAt k s) u)
 
--- ---- 3. No stage can short.
+-- ---- D3. No stage can short.
 
 -- where the posts stand at stage k; which are v1 to vk
 abbrev pub places : List ℕ → ℕ → Places
@@ -69,21 +69,21 @@ places s k = record { x = stageAt k s .x; y = stageAt k s .y }
 abbrev pub Placed : List ℕ → ℕ → ℕ → Type 0
 Placed s k u = In u (take k (order s))
 
--- a post already standing keeps its height, never moves left, and moves right by at most two columns
+-- the post u from one stage to the next: as high as before, and 0, 1 or 2 columns further right
 pub record Moves (old new : Places) (u : ℕ) : Type 0 where
   pub height : new .y u ≡ old .y u
   pub never-left : old .x u ≤ new .x u
   pub at-most-two : new .x u ≤ old .x u + 2
 
 pub record Demand3 (U : Services) : Type 0 where
-  -- for each accepted block of n posts and each stage k from 3 to n: different points of the grid 2k-4 wide and k-2 high
+  -- at every stage of an accepted block each post has a point of the stage's grid to itself
   pub grid : (s : List ℕ) (n k : ℕ) → U .check s ≡ accepted n → 3 ≤ k → k ≤ n → OnGrid (places s k) (Placed s k) (2 * k - 4) (k - 2)
-  -- no two different wires between them meet except at a post they share
+  -- two wires of the stage have no point in common but a post at which both end
   pub no-short : (s : List ℕ) (n k : ℕ) → U .check s ≡ accepted n → 3 ≤ k → k ≤ n → NoneMeet (places s k) (Wire (lists s) (take k (order s)))
-  -- going from stage k to k+1
+  -- and this is how posts move from there to the stage that follows
   pub moves : (s : List ℕ) (n k : ℕ) → U .check s ≡ accepted n → 3 ≤ k → k < n → (u : ℕ) → Placed s k u → Moves (places s k) (places s (k + 1)) u
 
--- ---- The same of the paper that the class wires from.
+-- ---- The same of the sheets that the class wires from.
 
 -- where a sheet's entries say that the posts stand: x then y of the post in position 1, then of that in position 2, and so on
 abbrev pub positionOf : List ℕ → ℕ → ℕ
@@ -92,7 +92,7 @@ positionOf vs u = first 1 (length vs) (λ k. eqb (post vs k) u)
 abbrev pub onSheet : List ℕ → List ℕ → Places
 onSheet vs b = record { x = λ u. getD b (2 * (positionOf vs u - 1)) 0; y = λ u. getD b (2 * (positionOf vs u - 1) + 1) 0 }
 
--- the sheet b of stage k: different points of the grid, and no two different wires meet except at a post they share
+-- by the sheet b of stage k each post has a grid point to itself, and two wires have no point in common but a post at which both end
 pub record Safe (s : List ℕ) (k : ℕ) (b : List ℕ) : Type 0 where
   pub grid : OnGrid (onSheet (order s) b) (Placed s k) (2 * k - 4) (k - 2)
   pub no-short : NoneMeet (onSheet (order s) b) (Wire (lists s) (take k (order s)))

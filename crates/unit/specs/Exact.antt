@@ -25,7 +25,7 @@ leftEnd s k = post (newRun s k) 1
 abbrev pub rightEnd : List ℕ → ℕ → ℕ
 rightEnd s k = lastOf 0 (newRun s k)
 
--- With p now at (xl, yl) and q at (xr, yr): twice the new post's x is xl + xr + yr - yl, and twice its y is xr - xl + yr + yl, so nothing is
+-- Where p has come to (xl, yl) and q to (xr, yr): twice the new post's x is xl + xr + yr - yl, and twice its y is xr - xl + yr + yl, so nothing is
 -- lost by halving; and what is taken off is not more than what it is taken from.
 pub record ExactHalves (now : Places) (p q v : ℕ) : Type 0 where
   pub whole-x : now .y p ≤ now .x p + now .x q + now .y q
@@ -34,7 +34,7 @@ pub record ExactHalves (now : Places) (p q v : ℕ) : Type 0 where
   pub twice-y : 2 * now .y v ≡ now .x q - now .x p + now .y q + now .y p
 
 pub record Exact (U : Services) : Type 0 where
-  -- for each accepted block of n posts and each k from 3 to n-1: the run has two ends, posts already standing, so that the run without its ends
+  -- of an accepted block, at each stage but the last: the next post's run has two ends, which stand already, so that the run without its ends
   -- is its length less 2
   pub ends : (s : List ℕ) (n k : ℕ) → U .check s ≡ accepted n → 3 ≤ k → k < n → 2 ≤ length (newRun s k)
   pub left-stands : (s : List ℕ) (n k : ℕ) → U .check s ≡ accepted n → 3 ≤ k → k < n → Placed s k (leftEnd s k)

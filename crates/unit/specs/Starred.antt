@@ -1,4 +1,4 @@
--- The starred cases of the paper, as one table.
+-- The cases with a star of docs/RULES.md (E1 to E9 and E11), as one table.
 use Prim.Native.Nat.{ℕ, _/_, _%_}
 use mathlib.Core.Path.{_≡_}
 use mathlib.Core.List.{List, [], _∷_, _++_, map, flatMap, flatten}
@@ -63,7 +63,7 @@ starred =
     -- 8: D, post 4 at stage 4; name 5
     ∷ post (D orderD 285) 4 4 (accepted (record { x = 0; y = 0; standing = Waiting }))
     ∷ post (D orderD 285) 4 5 (refused 17 0)
-    -- 9: T with sum 237; T with its last byte removed
+    -- 9: T with sum 237; T one byte short
     ∷ check (T 237) (refused 6 0)
     ∷ check (take 32 (T 236)) (refused 5 0)
     -- 11: D with a name twice in its order, and a corrected sum

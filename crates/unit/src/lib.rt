@@ -227,7 +227,7 @@ fn serve(s: &[u8], k: usize, ask: Ask, buffer: &mut [u16]) -> Served
     )
 }
 
-// sheet: any bytes, any stage, any buffer; accepted with the count 2k of entries written, or the refusal that the table fixes, with the buffer
+// sheet: any bytes, any stage, any buffer; accepted with 2k, as many entries as it wrote, or the refusal that the table fixes, with the buffer
 // as it came.
 pub fn sheet(s: &[u8], k: usize, buffer: &mut [u16]) -> Answer
     ensures { λ r. ⌜ (replyOf r ≡ sheetReply (now (s .entry)) k (now (buffer .entry)))

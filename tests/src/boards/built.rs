@@ -48,11 +48,11 @@ impl Construction {
 /// Every board of n posts with every canonical order of it, named by position
 /// minus one: hand each to `visit`.
 ///
-/// These are all of them: by the paper's rules the earlier neighbours of each
-/// new post vk, k from 3 to n, are one run of two or more, which is a stretch
-/// of the contour from w_p to w_q (document 001, section 2), and at k = n it is
-/// the whole contour. The board and its order fix these stretches, and the
-/// stretches fix the board, so that each board with an order comes up once.
+/// These are all of them: from position 3 on, the earlier neighbours of each
+/// new post are at least two and one run (O2, O3), which is a stretch of the
+/// contour (O7), and for vn the whole contour. The board and its order fix
+/// these stretches, and the stretches fix the board, so that each board with an
+/// order comes up once.
 /// The other way round every choice of stretches gives an accepted board: the
 /// last post covers the whole contour, and so every post gets a later neighbour.
 pub fn every_board(n: usize, visit: &mut dyn FnMut(&Board)) {

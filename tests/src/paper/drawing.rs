@@ -71,7 +71,7 @@ impl Drawing {
         self.contour.iter().position(|&w| w == name).unwrap()
     }
 
-    /// Move every post in the groups of these contour posts to the right.
+    /// Move the groups of these contour posts to the right.
     fn move_groups(&mut self, contour_posts: &[usize], by: i64) {
         for &w in contour_posts {
             for &member in &self.groups[w] {
@@ -80,7 +80,7 @@ impl Drawing {
         }
     }
 
-    /// Where a post stands; a waiting post has x = y = 0.
+    /// Where a post stands; (0, 0) for one that waits (R2).
     pub fn point(&self, name: usize) -> (u16, u16) {
         let (x, y) = self.points[name].unwrap_or((0, 0));
         (x.try_into().unwrap(), y.try_into().unwrap())
@@ -95,7 +95,7 @@ impl Drawing {
         }
     }
 
-    /// The left neighbour of v1 is given as v1, the right neighbour of v2 as v2.
+    /// How a post stands; v1 is its own left neighbour, and v2 its own right one (R3).
     fn standing(&self, name: usize) -> Standing {
         if let Some(by) = self.covered_by[name] {
             return Standing::Covered { by: by as u16 };
