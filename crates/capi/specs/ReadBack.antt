@@ -8,8 +8,8 @@ use Rattle.placing.specs.declared.Record.{Record}
 use Rattle.placing.specs.declared.Standing.{Standing}
 use Rattle.placing.specs.declared.Standing.the-variants.{Waiting, OnContour, Covered}
 use Rattle.lamp.specs.Given.{Reply, accepted, refused, checkReply}
-use Rattle.unit.specs.Replies.{sheetReply, bufferAfter, postReply}
-use Rattle.capi.specs.Codes.{codeOf, postOf}
+use Rattle.unit.specs.Replies.{sheetReply, postReply}
+use Rattle.capi.specs.Codes.{codeOf, postOf, CheckCode, SheetCode, PostStruct}
 use Rattle.capi.specs.declared.PostReply.{PostReply}
 
 -- ---- reading
@@ -61,18 +61,15 @@ pub record ReadBack : Type 0 where
   pub check-fits : (s : List ℕ) → CodeFits (checkReply s)
   pub sheet-fits : (s : List ℕ) (k : ℕ) (b : List ℕ) → CodeFits (sheetReply s k b)
   pub post-fits : (s : List ℕ) (k u : ℕ) → PostFits (postReply s k u)
-  -- so a number or struct that a C function promises (crates/capi/src/lib.rt) tells the reply
-  pub check : (s : List ℕ) (c : ℕ) → c ≡ codeOf (checkReply s) → readCode c ≡ checkReply s
-  pub sheet : (s : List ℕ) (k : ℕ) (b : List ℕ) (c : ℕ) → c ≡ codeOf (sheetReply s k b) → readCode c ≡ sheetReply s k b
-  pub post : (s : List ℕ) (k u : ℕ) (p : PostReply) → p ≡ postOf (postReply s k u) → readPost p ≡ postReply s k u
+  -- so a number or struct that a C function promises tells the reply
+  pub check : (s : List ℕ) (c : ℕ) → CheckCode s c → readCode c ≡ checkReply s
+  pub sheet : (s : List ℕ) (k : ℕ) (b : List ℕ) (c : ℕ) (after : List ℕ) → SheetCode s k b c after → readCode c ≡ sheetReply s k b
+  pub post : (s : List ℕ) (k u : ℕ) (p : PostReply) → PostStruct s k u p → readPost p ≡ postReply s k u
 
 -- ---- and it is the only one: two codes, buffers or structs that meet a C function's promise are equal
 
-abbrev pub SheetCode : List ℕ → ℕ → List ℕ → ℕ → List ℕ → Type 0
-SheetCode s k b c after = (c ≡ codeOf (sheetReply s k b)) × (after ≡ bufferAfter s k b)
-
 pub record OneCode : Type 0 where
-  pub check : (s : List ℕ) (c d : ℕ) → c ≡ codeOf (checkReply s) → d ≡ codeOf (checkReply s) → c ≡ d
+  pub check : (s : List ℕ) (c d : ℕ) → CheckCode s c → CheckCode s d → c ≡ d
   pub sheet : (s : List ℕ) (k : ℕ) (b : List ℕ) (c d : ℕ) (after other : List ℕ) → SheetCode s k b c after → SheetCode s k b d other
       → (c ≡ d) × (after ≡ other)
-  pub post : (s : List ℕ) (k u : ℕ) (p q : PostReply) → p ≡ postOf (postReply s k u) → q ≡ postOf (postReply s k u) → p ≡ q
+  pub post : (s : List ℕ) (k u : ℕ) (p q : PostReply) → PostStruct s k u p → PostStruct s k u q → p ≡ q

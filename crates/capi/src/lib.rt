@@ -1,9 +1,8 @@
 // The services as C functions, for firmware and for tests: include/pgb.h declares them.
 ghost use mathlib.Core.Path.{_≡_};
-ghost use Rattle.lamp.specs.Given.{accepted, refused, replyOf, checkReply};
-ghost use Rattle.unit.specs.Replies.{sheetReply, bufferAfter, postReply};
+ghost use Rattle.lamp.specs.Given.{accepted, refused, replyOf};
 ghost use Rattle.lamp.specs.Refusals.{numberOf, placeOf};
-ghost use Rattle.capi.specs.Codes.{refusalCode, codeOf, standingOf, firstOf, secondOf, postOf};
+ghost use Rattle.capi.specs.Codes.{refusalCode, codeOf, standingOf, firstOf, secondOf, postOf, CheckCode, SheetCode, PostStruct};
 use lamp::Answer;
 use lamp::Refusal;
 use placing::Record;
@@ -39,15 +38,14 @@ fn code(a: Answer) -> u32
 
 #[no_mangle]
 pub extern "C" fn pgb_check(block: &[u8]) -> u32
-    ensures { λ r. ⌜ r ≡ codeOf (checkReply (now (block .entry))) ⌝ }
+    ensures { λ r. ⌜ CheckCode (now (block .entry)) r ⌝ }
 {
     code(unit::check(block))
 }
 
 #[no_mangle]
 pub extern "C" fn pgb_sheet(block: &[u8], stage: usize, buffer: &mut [u16]) -> u32
-    ensures { λ r. ⌜ (r ≡ codeOf (sheetReply (now (block .entry)) stage (now (buffer .entry))))
-        × (now (buffer .exit) ≡ bufferAfter (now (block .entry)) stage (now (buffer .entry))) ⌝ }
+    ensures { λ r. ⌜ SheetCode (now (block .entry)) stage (now (buffer .entry)) r (now (buffer .exit)) ⌝ }
 {
     code(unit::sheet(block, stage, buffer))
 }
@@ -111,7 +109,7 @@ fn of_refusal(r: Refusal) -> PostReply
 
 #[no_mangle]
 pub extern "C" fn pgb_post(block: &[u8], stage: usize, name: usize) -> PostReply
-    ensures { λ r. ⌜ r ≡ postOf (postReply (now (block .entry)) stage name) ⌝ }
+    ensures { λ r. ⌜ PostStruct (now (block .entry)) stage name r ⌝ }
 {
     match unit::post(block, stage, name) {
         Posted::Accepted(r) => of_record(r),

@@ -5,4 +5,4 @@ pub mod Calls
 pub mod Written
 pub mod Mirror
 pub mod Exact
-pub mod Unique
+pub mod OneReply

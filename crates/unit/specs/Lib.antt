@@ -3,5 +3,5 @@ pub mod Asked
 pub mod Demands
 pub mod Mirror
 pub mod Exact
-pub mod Unique
+pub mod Promises
 pub mod Starred

@@ -10,7 +10,7 @@ ghost use Rattle.order.specs.Fitted.{Reachable};
 ghost use Rattle.lamp.specs.Lamp.{roomRows, nameRows};
 ghost use Rattle.lamp.specs.Given.{accepted, replyOf, given, checkReply};
 ghost use Rattle.lamp.specs.Loaded.{Wide, Checked};
-ghost use Rattle.unit.specs.Replies.{sheetReply, bufferAfter, postReply, postedOf};
+ghost use Rattle.unit.specs.Promises.{CheckPromise, SheetPromise, PostPromise};
 ghost use Rattle.unit.specs.Asked.{furtherRows, Within, Tells, Serves};
 use block::Block;
 use lamp::Answer;
@@ -40,7 +40,7 @@ fn no_entries() -> [u16; Block::ENTRIES]
 
 // check: any bytes; accepted with the number of posts, or the refusal and place that the table fixes.
 pub fn check(s: &[u8]) -> Answer
-    ensures { λ r. ⌜ replyOf r ≡ checkReply (now (s .entry)) ⌝ }
+    ensures { λ r. ⌜ CheckPromise (now (s .entry)) r ⌝ }
 {
     let mut vs = no_names();
     let mut ds = no_names();
@@ -230,8 +230,7 @@ fn serve(s: &[u8], k: usize, ask: Ask, buffer: &mut [u16]) -> Served
 // sheet: any bytes, any stage, any buffer; accepted with 2k, as many entries as it wrote, or the refusal that the table fixes, with the buffer
 // as it came.
 pub fn sheet(s: &[u8], k: usize, buffer: &mut [u16]) -> Answer
-    ensures { λ r. ⌜ (replyOf r ≡ sheetReply (now (s .entry)) k (now (buffer .entry)))
-        × (now (buffer .exit) ≡ bufferAfter (now (s .entry)) k (now (buffer .entry))) ⌝ }
+    ensures { λ r. ⌜ SheetPromise (now (s .entry)) k (now (buffer .entry)) r (now (buffer .exit)) ⌝ }
 {
     let served = serve(s, k, Ask::Sheet, buffer);
     served.answer
@@ -245,7 +244,7 @@ pub enum Posted {
 
 // post: any bytes, any stage, any name; accepted with the post's record at that stage, or the refusal that the table fixes.
 pub fn post(s: &[u8], k: usize, u: usize) -> Posted
-    ensures { λ r. ⌜ postedOf r ≡ postReply (now (s .entry)) k u ⌝ }
+    ensures { λ r. ⌜ PostPromise (now (s .entry)) k u r ⌝ }
 {
     let mut none = [0u16; 1];
     let served = serve(s, k, Ask::Post(u), &mut none);

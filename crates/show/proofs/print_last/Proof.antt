@@ -25,10 +25,10 @@ all c =
     whole (lastText s) (c .before .before .no-text .result) _ _ (omega (arith, last-length s, c .before .before .no-text .ensures)) (c .last-sheet .ensures)
 
 array-share-prefix-out : tie.Need-array-share-prefix-out
-array-share-prefix-out c = all (c .before) .0
+array-share-prefix-out c = omega (arith, all (c .before) .0)
 
 slice-aggregate-hand-last : tie.Need-slice-aggregate-hand-last
-slice-aggregate-hand-last c = sym (length-take-le _ _ (all (c .before .before) .0))
+slice-aggregate-hand-last c = sym (length-take-le _ (c .before .before .last-sheet .last .1 .0) (omega (arith, all (c .before .before) .0)))
 
 hand-last-requires : tie.Need-hand-last-requires
 hand-last-requires c κs = all (c .before .before) .1

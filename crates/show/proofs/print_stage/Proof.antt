@@ -27,10 +27,10 @@ all c =
     whole text (made .result) _ _ (omega (arith, stage-length (a .s .now) (a .word .now), made .ensures)) (c .stage .ensures)
 
 array-share-prefix-out : tie.Need-array-share-prefix-out
-array-share-prefix-out c = all (c .before) .0
+array-share-prefix-out c = omega (arith, all (c .before) .0)
 
 slice-aggregate-hand-stage : tie.Need-slice-aggregate-hand-stage
-slice-aggregate-hand-stage c = sym (length-take-le _ _ (all (c .before .before) .0))
+slice-aggregate-hand-stage c = sym (length-take-le _ (c .before .before .stage .last .1 .1 .0) (omega (arith, all (c .before .before) .0)))
 
 hand-stage-requires : tie.Need-hand-stage-requires
 hand-stage-requires c κs = all (c .before .before) .1

@@ -1,5 +1,5 @@
--- How tight the services are held, of the very values that the functions answer: whatever is handed in, two answers that meet a function's
--- promise (what crates/unit/src/lib.rt ensures of it) are equal, and so are two buffers after a sheet call.
+-- What each service promises of the very values that its function answers; and how tight that is: whatever is handed in, two answers that meet
+-- a promise are equal, and so are two buffers after a sheet call.
 use Prim.Native.Nat.{ℕ}
 use mathlib.Core.Path.{_≡_}
 use mathlib.Core.List.{List}

@@ -3,7 +3,7 @@ use mathlib.Core.Path.{_≡_, sym, ap, _∙_}
 use Rattle.lamp.proofs.Given.{not-both}
 use Rattle.lamp.proofs.ReadBack.{one-refused, one-told}
 use Rattle.unit.specs.Replies.{postedOf}
-use Rattle.unit.specs.Unique.{OneReply}
+use Rattle.unit.specs.Promises.{OneReply}
 use Rattle.unit.specs.declared.Posted.{Posted}
 
 pub one-posted : (r q : Posted) → postedOf r ≡ postedOf q → r ≡ q
