@@ -93,7 +93,7 @@ codes-read-back =
       sheet-fits = sheet-fits;
       post-fits = post-fits;
       check = λ s c e. ap readCode e ∙ codes (checkReply s) (check-fits s);
-      sheet = λ s k b c e. ap readCode e ∙ codes (sheetReply s k b) (sheet-fits s k b);
+      sheet = λ s k b c after e. ap readCode (e .0) ∙ codes (sheetReply s k b) (sheet-fits s k b);
       post = λ s k u p e. ap readPost e ∙ structs (postReply s k u) (post-fits s k u);
     }
 
