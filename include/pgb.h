@@ -17,7 +17,7 @@
 extern "C" {
 #endif
 
-/* Accepted with the number of posts, or the refusal and place that the paper's table fixes. */
+/* Accepted with the number of posts, or the refusal and place that the table fixes. */
 uint32_t pgb_check(const uint8_t *block, size_t len);
 
 /* Accepted with 2k: buffer[0 .. 2k-1] is x, y of the posts in positions 1 to k at that stage, and what is beyond stays. Refused: the whole

@@ -100,7 +100,7 @@ impl Tester {
     }
 }
 
-/// Document 002's conditions and the rule for each position.
+/// Chrobak and Nakano's conditions and the rule for each position.
 impl Tester {
     /// Compare the reply to a board's block with the conditions: if it isn't
     /// refused by steps 1 to 11, it is accepted exactly if they hold at every

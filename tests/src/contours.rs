@@ -1,10 +1,10 @@
-//! Document 002's conditions co1 to co3, checked on faces that are walked.
+//! Chrobak and Nakano's conditions co1 to co3, checked on faces that are walked.
 //!
 //! A board that passes steps 1 to 11 is a drawing on a surface without any
 //! points: at each post its ring tells how the wires lie around it, counter-
 //! clockwise. Striking the waiting posts out of all rings leaves the drawing
 //! of G_k, and its faces are walked wire by wire. Nothing in here knows of
-//! runs, of the table's rule for each position, or of placing. The document's
+//! runs, of the table's rule for each position, or of placing. Their
 //! words are read so:
 //!
 //! - *G_k*, the subgraph that v1 to vk induce: these posts and every wire

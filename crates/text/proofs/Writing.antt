@@ -10,7 +10,7 @@ use lib.Dec.{ltb}
 use lib.ListN.{length, take, drop, set, length-set, length-append}
 use lib.Seq.{set-at, append-snoc, take-all, take-nil, drop-nil}
 use borrow.Author.Tests.{lt-ltb, le-ltb}
-use Rattle.text.specs.Filling.{Filling, filling, put, write, filledWith}
+use Rattle.text.specs.Filling.{Filling, filling, put, write, filledWith, OneFilling}
 
 pub put-in : (at : ℕ) (b : List ℕ) (c : ℕ) → at < length b → put (filling at b) c ≡ filling (at + 1) (set b at c)
 unfolding put
@@ -89,3 +89,6 @@ written b t = behind [] b t ∙ rw (zero-add (length t), zero-add (length b)) re
 -- what was written from the start is this text
 pub fills : (b t : List ℕ) {g : Filling} {u : List ℕ} → g ≡ write (filling 0 b) t → u ≡ t → g ≡ filledWith u b
 fills b t e d = e ∙ written b t ∙ ap (λ (z : List ℕ). filledWith z b) (sym d)
+
+pub one-filling : OneFilling
+one-filling = record { same = λ t b e d after other p q. (ap (λ (f : Filling). f .0) (p ∙ sym q), ap (λ (f : Filling). f .1) (p ∙ sym q)) }

@@ -1,5 +1,6 @@
 -- A lent buffer that is filled with text from its start on.
 use Prim.Native.Nat.{ℕ, _+_, min}
+use mathlib.Core.Path.{_≡_}
 use mathlib.Core.Bool.{cond}
 use mathlib.Core.List.{List, [], _∷_, _++_}
 use lib.Dec.{ltb}
@@ -24,3 +25,8 @@ write f (c ∷ t) = write (put f c) t
 -- a whole text in a buffer b, as far as it has room: so much of it, and what stood behind it stays
 abbrev pub filledWith : List ℕ → List ℕ → Filling
 filledWith t b = (min (length t) (length b), take (length b) t ++ drop (length t) b)
+
+-- whatever is handed in, two answers with the buffers after them that are filled with the same text are equal
+pub record OneFilling : Type 0 where
+  pub same : (t b : List ℕ) (e d : ℕ) (after other : List ℕ) → filling e after ≡ filledWith t b → filling d other ≡ filledWith t b
+      → (e ≡ d) × (after ≡ other)
