@@ -1,7 +1,7 @@
 -- Groups: in a step the posts move right by their groups, the later on the contour the farther. The new post v takes the place of its run's
 -- inner posts on the contour, and their groups.
 use Prim.Native.Nat.{ℕ, _+_, _≤_, _<_}
-use mathlib.Core.Path.{_≡_, ap}
+use mathlib.Core.Path.{ap}
 use mathlib.Core.Logic.{inl, inr}
 use mathlib.Core.List.{List, [], _∷_, _++_}
 use native.Mathlib.Omega.{arith}

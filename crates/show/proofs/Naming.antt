@@ -1,13 +1,12 @@
 -- The stage that a word names: words that say more than the limit are cut off there, and name none.
-use Prim.Native.Nat.{ℕ, _+_, _≤_, _<_, min}
-use mathlib.Core.Path.{_≡_, refl, sym, ap, _∙_}
+use Prim.Native.Nat.{ℕ, _+_, _<_, min}
+use mathlib.Core.Path.{_≡_, refl, sym, ap}
 use mathlib.Core.Bool.{Bool, true, false, cond}
 use mathlib.Core.List.{List}
 use native.Mathlib.Nat.{min-eq-left, min-eq-right}
 use native.Mathlib.Omega.{arith}
 use native.Mathlib.Decide.{decLt}
 use Rattle.block.specs.Layout.{limit}
-use Rattle.text.specs.declared.Word.{Word}
 use Rattle.text.specs.declared.Word.the-variants.{Number, Other}
 use Rattle.text.specs.Letters.{isNumber, valueOf}
 use Rattle.text.specs.Said.{saidUpTo}

@@ -1,6 +1,6 @@
 -- Numbers with a space before each: one more at the end.
 use Prim.Native.Nat.{ℕ}
-use mathlib.Core.Path.{_≡_, refl, sym, ap, _∙_}
+use mathlib.Core.Path.{_≡_, sym, ap, _∙_}
 use mathlib.Core.List.{List, [], _∷_, _++_, flatMap, append-assoc, append-nil}
 use Rattle.text.specs.Letters.{spaced}
 use Rattle.show.specs.Replied.{spacedAll}

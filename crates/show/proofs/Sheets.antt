@@ -9,7 +9,6 @@ use lib.ListN.{length, getD, take, drop, length-take}
 use lib.Seq.{getD-take}
 use lib.Dec.{ltb}
 use borrow.Author.Tests.{ltb-false, lt-ltb, le-ltb}
-use Rattle.words.specs.Positions.{post}
 use Rattle.words.proofs.Tests.{neither}
 use Rattle.block.specs.Layout.{limit}
 use Rattle.block.specs.Block.{posts, order, Headed}
@@ -123,8 +122,9 @@ module _ (s : List ℕ) (k : ℕ) where
           let there : i < length (take k vs) = omega (arith, length-take k vs, order-length s, at-most none) in
           let is = written s k b (m, e) in
           let u : getD (take k vs) i 0 ≡ getD vs i 0 = getD-take k vs i 0 h in
-          let x : getD (bufferAfter s k b) (2 * i) 0 ≡ t .x (getD vs i 0) = rw is (pairs-x (t .x) (t .y) (take k vs) (drop (2 * k) b) i there ∙ ap (t .x) u) in
-          let y : getD (bufferAfter s k b) (2 * i + 1) 0 ≡ t .y (getD vs i 0) = rw is (pairs-y (t .x) (t .y) (take k vs) (drop (2 * k) b) i there ∙ ap (t .y) u) in
+          let rest = drop (2 * k) b in
+          let x : getD (bufferAfter s k b) (2 * i) 0 ≡ t .x (getD vs i 0) = rw is (pairs-x (t .x) (t .y) (take k vs) rest i there ∙ ap (t .x) u) in
+          let y : getD (bufferAfter s k b) (2 * i + 1) 0 ≡ t .y (getD vs i 0) = rw is (pairs-y (t .x) (t .y) (take k vs) rest i there ∙ ap (t .y) u) in
           let less : suc i - 1 ≡ i = omega arith in
           rw (less, x, y) refl
 

@@ -1,6 +1,6 @@
 -- A service's whole reply as a line of text, for the worked cases.
 use Prim.Native.Nat.{ℕ}
-use mathlib.Core.List.{List, [], _∷_, _++_, flatMap}
+use mathlib.Core.List.{List, _++_, flatMap}
 use Rattle.placing.specs.declared.Record.{Record}
 use Rattle.placing.specs.declared.Standing.{Standing}
 use Rattle.placing.specs.declared.Standing.the-variants.{Waiting, OnContour, Covered}

@@ -1,14 +1,12 @@
 -- Filling a buffer: text after text is one text, the buffer's length stays, and a text written from the start fills it as filledWith says.
-use Prim.Native.Nat.{ℕ, zero, suc, _+_, _≤_, _<_, min}
+use Prim.Native.Nat.{ℕ, suc, _+_, _≤_, _<_, min}
 use mathlib.Core.Path.{_≡_, refl, sym, ap, _∙_}
-use mathlib.Core.Bool.{cond, true, false}
-use mathlib.Core.List.{List, [], _∷_, _++_, append-assoc, append-nil}
+use mathlib.Core.List.{List, [], _∷_, _++_}
 use native.Mathlib.Nat.{min-eq-left, min-eq-right, zero-add}
 use native.Mathlib.Omega.{arith}
 use native.Mathlib.Decide.{decLt}
-use lib.Dec.{ltb}
 use lib.ListN.{length, take, drop, set, length-set, length-append}
-use lib.Seq.{set-at, append-snoc, take-all, take-nil, drop-nil}
+use lib.Seq.{set-at, append-snoc, take-nil, drop-nil}
 use borrow.Author.Tests.{lt-ltb, le-ltb}
 use Rattle.text.specs.Filling.{Filling, filling, put, write, filledWith, OneFilling}
 

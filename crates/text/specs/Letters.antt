@@ -1,9 +1,9 @@
 -- Text as the list of its bytes: letters, numbers in decimal, and the number that a word says.
 use Prim.Native.Nat.{ℕ, _+_, _*_, _-_, _^_}
-use Prim.Native.Char.{Char, code}
+use Prim.Native.Char.{code}
 use Prim.Native.String.{String, [] as none, _∷_ as _then_}
-use mathlib.Core.Bool.{Bool, true, false, not, _&&_}
-use mathlib.Core.List.{List, [], _∷_, _++_}
+use mathlib.Core.Bool.{Bool, true, false, _&&_}
+use mathlib.Core.List.{List, [], _∷_}
 use lib.Dec.{ltb, leb}
 use Rattle.io.specs.Digits.{digits}
 use Rattle.words.specs.First.{first}

@@ -70,8 +70,9 @@ loop-less c = search needs
 loop-again : tie.Need-loop-again Inv-loop μ-loop
 loop-again c =
     let turn = c .before .before in
-    let loop = turn .before .before .before .before .before .before .loop in
-    let a = turn .before .before .before .before .before .before .before .before .before .before .args in
+    let head = turn .before .before .before .before .before .before in
+    let loop = head .loop in
+    let a = head .before .before .before .before .args in
     let line = entryLine (a .vs .now) (a .b .now) in
     let f = filling (a .at) (a .out .now) in
     let i = loop .i in

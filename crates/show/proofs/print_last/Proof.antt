@@ -19,7 +19,9 @@ last-sheet-requires : tie.Need-last-sheet-requires
 last-sheet-requires c κs = search needs
 
 -- the buffer holds the whole text
-all : (c : tie.After-last-sheet) → (c .last-sheet .result ≤ length (c .last-sheet .last .1 .0)) × (take (c .last-sheet .result) (c .last-sheet .last .1 .0) ≡ lastText (c .before .before .before .before .args .s .now))
+all : (c : tie.After-last-sheet)
+    → (c .last-sheet .result ≤ length (c .last-sheet .last .1 .0))
+    × (take (c .last-sheet .result) (c .last-sheet .last .1 .0) ≡ lastText (c .before .before .before .before .args .s .now))
 all c =
     let s = c .before .before .before .before .args .s .now in
     whole (lastText s) (c .before .before .no-text .result) _ _ (omega (arith, last-length s, c .before .before .no-text .ensures)) (c .last-sheet .ensures)

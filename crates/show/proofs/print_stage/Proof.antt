@@ -2,7 +2,8 @@ use borrow.Author.Needs.{needs}
 use Rattle.show.proofs.print_stage.Statement.{statement}
 use Rattle.show.proofs.print_stage.Tie as tie
 use native.Mathlib.Omega.{arith}
-use Prim.Native.Nat.{_≤_}
+use Prim.Native.Nat.{ℕ, _≤_}
+use mathlib.Core.List.{List}
 use mathlib.Core.Path.{_≡_, sym}
 use lib.ListN.{length, take}
 use lib.Seq.{length-take-le}
@@ -19,12 +20,14 @@ stage-requires : tie.Need-stage-requires
 stage-requires c κs = search needs
 
 -- the buffer holds the whole text
-all : (c : tie.After-stage) → (c .stage .result ≤ length (c .stage .last .1 .1 .0)) × (take (c .stage .result) (c .stage .last .1 .1 .0) ≡ stageText (c .before .before .before .before .before .args .s .now) (c .before .before .before .before .before .args .word .now))
+abbrev text : tie.After-stage → List ℕ
+text c = let a = c .before .before .before .before .before .args in stageText (a .s .now) (a .word .now)
+
+all : (c : tie.After-stage) → (c .stage .result ≤ length (c .stage .last .1 .1 .0)) × (take (c .stage .result) (c .stage .last .1 .1 .0) ≡ text c)
 all c =
     let a = c .before .before .before .before .before .args in
-    let text = stageText (a .s .now) (a .word .now) in
     let made = c .before .before .no-text in
-    whole text (made .result) _ _ (omega (arith, stage-length (a .s .now) (a .word .now), made .ensures)) (c .stage .ensures)
+    whole (text c) (made .result) _ _ (omega (arith, stage-length (a .s .now) (a .word .now), made .ensures)) (c .stage .ensures)
 
 array-share-prefix-out : tie.Need-array-share-prefix-out
 array-share-prefix-out c = omega (arith, all (c .before) .0)

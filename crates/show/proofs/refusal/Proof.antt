@@ -2,7 +2,7 @@ use borrow.Author.Needs.{needs}
 use Rattle.show.proofs.refusal.Statement.{statement}
 use Rattle.show.proofs.refusal.Tie as tie
 use Rattle.text.specs.Letters.{letters, spaced}
-use Rattle.text.proofs.Writing.{write-then, put-written}
+use Rattle.text.proofs.Writing.{write-then}
 use Rattle.show.specs.Shown.{refusalText}
 
 told-requires : tie.Need-told-requires

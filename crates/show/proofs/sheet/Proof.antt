@@ -56,9 +56,10 @@ same-length c = search needs
 
 returns : tie.Need-returns
 returns c =
-    let call = c .before .before .before .before .before .before .before .before in
+    let told = c .before .before .before .before .before in
+    let call = told .before .before .before in
     let a = call .before .before .before .before .before .args in
-    let refuses = sym (call .sheet .ensures .0) ∙ ap replyOf (c .before .before .before .before .before .r .given .1) in
+    let refuses = sym (call .sheet .ensures .0) ∙ ap replyOf (told .r .given .1) in
     let room = sym (call .before .before .blank .ensures) in
     fills (a .out .now) _ (c .before .before .refusal-line .ensures) (sheet-refuses (a .s .now) (a .k) _ room _ _ refuses)
 

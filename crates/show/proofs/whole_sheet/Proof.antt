@@ -10,7 +10,6 @@ use lib.Seq.{length-take-le}
 use Rattle.words.specs.Numbers.{wordsAt}
 use Rattle.block.specs.Layout.{orderAt}
 use Rattle.block.specs.Block.{order}
-use Rattle.text.specs.Filling.{write}
 use Rattle.text.proofs.Writing.{write-then}
 use Rattle.show.specs.Shown.{headLine, linesTo}
 use Rattle.show.specs.Entered.{entryLine}

@@ -1,7 +1,7 @@
 use borrow.Author.Needs.{needs}
 use Rattle.show.proofs.replies.reply_of_sheet.Statement.{statement}
 use Rattle.show.proofs.replies.reply_of_sheet.Tie as tie
-use mathlib.Core.Path.{refl, sym, ap}
+use mathlib.Core.Path.{refl, ap}
 use Rattle.text.specs.Letters.{letters, newline}
 use Rattle.text.proofs.Writing.{write-then, put-written, fills}
 use Rattle.show.specs.Replied.{answerText, spacedAll, sheetReplyLine}
