@@ -2,3 +2,4 @@ pub mod Sheets
 pub mod Naming
 pub mod Lengths
 pub mod Replying
+pub mod OnBoards
