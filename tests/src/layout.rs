@@ -67,7 +67,7 @@ pub fn put(block: &mut [u8], at: usize, number: u16) {
 mod tests {
     use super::*;
 
-    /// As the paper says it: 16n - 15 bytes, the sum in the last two.
+    /// By the rules: 16n - 15 bytes, the sum in the last two.
     #[test]
     fn lengths_are_those_of_the_paper() {
         for n in [FEWEST, 5, MOST] {

@@ -1,7 +1,7 @@
 //! Tests of the wiring-sheet unit from outside.
 //!
 //! Two implementations of the paper stand here beside the unit's C library:
-//! [`paper`] does literally what the paper says, [`linear`] is what a plain
+//! [`paper`] does literally what the rules say, [`linear`] is what a plain
 //! programmer would write for speed. Neither shares anything with the unit.
 
 pub mod board;

@@ -1,5 +1,5 @@
 //! The test program: everything that goes through the unit's C library, and
-//! what its programs print, is compared with what the paper says. It ends at
+//! what its programs print, is compared with what the rules say. It ends at
 //! the first difference.
 
 use outside::ffi;

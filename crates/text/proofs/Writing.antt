@@ -89,4 +89,4 @@ pub fills : (b t : List ℕ) {g : Filling} {u : List ℕ} → g ≡ write (filli
 fills b t e d = e ∙ written b t ∙ ap (λ (z : List ℕ). filledWith z b) (sym d)
 
 pub one-filling : OneFilling
-one-filling = record { same = λ t b e d after other p q. (ap (λ (f : Filling). f .0) (p ∙ sym q), ap (λ (f : Filling). f .1) (p ∙ sym q)) }
+one-filling = record { same = λ f e d after other p q. (ap (λ (g : Filling). g .0) (p ∙ sym q), ap (λ (g : Filling). g .1) (p ∙ sym q)) }

@@ -26,7 +26,6 @@ write f (c ∷ t) = write (put f c) t
 abbrev pub filledWith : List ℕ → List ℕ → Filling
 filledWith t b = (min (length t) (length b), take (length b) t ++ drop (length t) b)
 
--- whatever is handed in, two answers with the buffers after them that are filled with the same text are equal
+-- a contract of text fixes the answer and the buffer after it: two that meet it, whatever filling f it gives, are equal
 pub record OneFilling : Type 0 where
-  pub same : (t b : List ℕ) (e d : ℕ) (after other : List ℕ) → filling e after ≡ filledWith t b → filling d other ≡ filledWith t b
-      → (e ≡ d) × (after ≡ other)
+  pub same : (f : Filling) (e d : ℕ) (after other : List ℕ) → filling e after ≡ f → filling d other ≡ f → (e ≡ d) × (after ≡ other)

@@ -13,7 +13,7 @@ const FEWEST_BY_CHANCE: usize = 5;
 const USAGE: &str = "\
 board pack < TEXT > BLOCK     write a block from its text
 board show < BLOCK > TEXT     write a block's text (of a damaged one what can be read)
-board sheet [K] < BLOCK       print the last stage, or stage K, as the paper says it
+board sheet [K] < BLOCK       print the last stage, or stage K, by the rules
 board make POSTS [SEED]       write the block of a board by chance
 
 The text of a board has a line `order ..` with the names in the order of

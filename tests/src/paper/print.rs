@@ -32,6 +32,11 @@ pub fn refused_text(refusal: Refusal) -> String {
     format!("refused {} {}\n", refusal.number, refusal.place)
 }
 
+/// The line of a word that says no number.
+pub fn usage_text() -> String {
+    "usage: stage K < block, with K the stage, from 3 to the number of posts\n".into()
+}
+
 /// The most characters that a word for a stage has.
 const LONGEST_WORD: usize = 32;
 

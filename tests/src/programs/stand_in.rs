@@ -3,6 +3,7 @@
 
 use crate::layout::{self, MOST};
 use crate::linear;
+use crate::paper;
 use crate::reply::Refusal;
 use std::ffi::OsString;
 use std::fmt::Write as _;
@@ -13,7 +14,7 @@ pub fn stand_in(mut words: impl Iterator<Item = OsString>) -> io::Result<()> {
     let mut block = Vec::new();
     let answer = match words.next() {
         Some(name) if name == "stage" => match words.next().as_ref().and_then(stage) {
-            None => "usage: stage K < BLOCK\n".into(),
+            None => paper::usage_text(),
             stage => {
                 read(&mut block)?;
                 printed(&block, stage)
