@@ -158,6 +158,13 @@ pub fn starts(ds: &[u16], at: &mut [u16])
     at[u] = t;
 }
 
+// Room for a number for each name.
+pub fn no_names() -> [u16; Block::LIMIT]
+    ensures { λ r. ⌜ limit ≤ length r ⌝ }
+{
+    [0u16; Block::LIMIT]
+}
+
 fn no_marks() -> [u8; Block::LIMIT]
     ensures { λ r. ⌜ (limit ≤ length r) × ((a : ℕ) → getD r a 0 ≡ 0) ⌝ }
 {

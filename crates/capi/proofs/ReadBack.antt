@@ -14,8 +14,8 @@ use Rattle.placing.specs.Records.{recordOf}
 use Rattle.lamp.specs.Lamp.{checkRows, sheetRows, postRows, stageRows, roomRows, nameRows}
 use Rattle.lamp.specs.Given.{Reply, accepted, refused, checkReply}
 use Rattle.lamp.proofs.Places.{SizedReply, told-sized, check-sized}
-use Rattle.lamp.proofs.Given.{given-none, given-says, accepted-is, none-left}
-use Rattle.lamp.proofs.Accepts.{accepted-posts, accepted-framed}
+use Rattle.lamp.proofs.Given.{given-says, accepted-is, none-left}
+use Rattle.lamp.proofs.Accepts.{none-accepted, accepted-posts, accepted-framed}
 use Rattle.unit.specs.Replies.{stageAt, sheetReply, postReply}
 use Rattle.unit.proofs.Written.{sheet-most}
 use Rattle.capi.specs.Codes.{refusalCode, codeOf, standingOf, firstOf, secondOf, postOf}
@@ -59,11 +59,11 @@ check-fits s =
 
 -- the count 2k of an accepted sheet is at most 2n
 count-most : (s : List ℕ) (k : ℕ) (b : List ℕ) (count : ℕ) → sheetReply s k b ≡ accepted count → count ≤ 2 * limit
-unfolding sheetReply sheetRows checkReply
+unfolding sheetReply sheetRows
 count-most s k b count e =
     let rows = sheetRows s k (length b) in
     let check = none-left (checkRows s) (stageRows k ++ roomRows k (length b)) s (given-says s (λ z. 2 * k) rows count e) in
-    let most = accepted-framed s (posts s) (given-none s posts (checkRows s) check) .posts-most in
+    let most = accepted-framed s (posts s) (none-accepted s check) .posts-most in
     omega (arith, accepted-is s (λ z. 2 * k) rows count e, sheet-most s k b (count, e))
 
 sheet-fits : (s : List ℕ) (k : ℕ) (b : List ℕ) → CodeFits (sheetReply s k b)

@@ -6,7 +6,8 @@ use mathlib.Core.List.{List, [], _∷_, _++_, map, flatMap}
 use native.Mathlib.Omega.{arith}
 use native.Mathlib.Decide.{ℕ-discrete}
 use lib.ListN.{length}
-use borrow.Author.Tests.{eq-eqb, not-false}
+use lib.Dec.{ltb}
+use borrow.Author.Tests.{eq-eqb, not-false, ltb-false}
 use Rattle.words.specs.First.{numbers}
 use Rattle.words.specs.Numbers.{sumOf}
 use Rattle.words.specs.Positions.{post, earlier}
@@ -20,9 +21,9 @@ use Rattle.order.specs.Order.{twoPlaced, oneRun}
 use Rattle.order.proofs.Sound.{Boarded, Passes}
 use Rattle.lamp.specs.Lamp.{someName, entryFault, degreeFault, ringFault, triangleFault, entryRow, degreeRow, ringRow, triangleRow, outerRow}
 use Rattle.lamp.specs.Lamp.{fewRow, brokenRow, headerRows, sumRows, orderRows, degreeRows, ringRows, triangleRows, outerRows, positionRows}
-use Rattle.lamp.specs.Lamp.{fittingRows, Row, blockRows, checkRows}
+use Rattle.lamp.specs.Lamp.{fittingRows, stageRows, Row, blockRows, checkRows}
 use Rattle.lamp.specs.Given.{accepted, checkReply, NoneApplies}
-use Rattle.lamp.proofs.Given.{given-says, accepted-is, none-left, none-right, none-both}
+use Rattle.lamp.proofs.Given.{given-says, given-none, accepted-is, none-left, none-right, none-both}
 use Rattle.lamp.proofs.Heads.{framed, framed-none}
 use Rattle.lamp.proofs.Loads.{order-length, totalled}
 
@@ -115,6 +116,17 @@ module _ (s : List ℕ) where
   pub accepted-framed : (n : ℕ) → checkReply s ≡ accepted n → Framed s
   unfolding checkRows
   accepted-framed n e = none-framed (none-left blockRows (fittingRows s) s (accepted-none n e))
+
+  -- and where none applies it is accepted
+  pub none-accepted : NoneApplies (checkRows s) s → checkReply s ≡ accepted (posts s)
+  unfolding checkReply
+  none-accepted h = given-none s posts (checkRows s) h
+
+  -- a stage that passes its row is one of the block's
+  pub stage-range : (k : ℕ) → NoneApplies (stageRows k) s → (3 ≤ k) × (k ≤ posts s)
+  stage-range k h =
+      let t = neither (ltb k 3) (ltb (posts s) k) (h .0) in
+      (ltb-false k 3 (t .0), ltb-false (posts s) k (t .1))
 
   -- what 12 and 13 say where they pass at position k
   pub none-position : (k : ℕ) → NoneApplies (positionRows k) s

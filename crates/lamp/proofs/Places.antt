@@ -5,17 +5,16 @@ use mathlib.Core.Path.{_≡_, refl, subst}
 use mathlib.Core.Bool.{Bool, true, false}
 use mathlib.Core.List.{List, [], _∷_, _++_, flatMap, append-nil}
 use native.Mathlib.Omega.{arith}
-use lib.Dec.{ltb}
-use borrow.Author.Tests.{ltb-true, ltb-false}
+use borrow.Author.Tests.{ltb-true}
 use Rattle.words.specs.First.{numbers, first, some}
 use Rattle.words.proofs.First.{first-is}
-use Rattle.words.proofs.Tests.{neither}
 use Rattle.block.specs.Layout.{limit}
 use Rattle.block.specs.Block.{posts}
-use Rattle.lamp.specs.Lamp.{Row, entryFault, degreeFault, ringFault, triangleFault, postsRow, headerRows, sumRows, orderRows, degreeRows}
+use Rattle.lamp.specs.Lamp.{Row, entryFault, degreeFault, ringFault, triangleFault, openingRows, sizeRows, headerRows, sumRows, orderRows, degreeRows}
 use Rattle.lamp.specs.Lamp.{ringRows, triangleRows, outerRows, positionRows, fittingRows, blockRows, checkRows}
 use Rattle.lamp.specs.Given.{Reply, accepted, refused, given, NoneApplies}
-use Rattle.lamp.proofs.Given.{given-end, given-skip, given-stop}
+use Rattle.lamp.proofs.Given.{given-end, given-skip, given-stop, none-right}
+use Rattle.lamp.proofs.Heads.{size-headed}
 
 -- a refusal's number, and a place of at most m
 abbrev pub Sized : ℕ → ℕ → ℕ → Type 0
@@ -92,10 +91,7 @@ module _ (s : List ℕ) where
 
   -- where the header passes, n is from 3 to the limit
   in-range : NoneApplies headerRows s → (3 ≤ n) × (n ≤ limit)
-  in-range h =
-      let e : postsRow .when s ≡ false = search in
-      let t = neither (ltb n 3) (ltb limit n) e in
-      omega (arith, ltb-false n 3 (t .0), ltb-false limit n (t .1))
+  in-range h = let H = size-headed s n refl (none-right openingRows sizeRows s h) in (H .least, H .most)
 
   wider : (l m : ℕ) → l ≤ m → (rows : List Row) → SizedRows l s rows → SizedRows m s rows
   wider l m i [] h = tt

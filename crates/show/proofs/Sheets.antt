@@ -1,22 +1,20 @@
 -- The lines of a sheet, one after the other, and from the entries that an accepted call wrote.
 use Prim.Native.Nat.{ℕ, zero, suc, _+_, _*_, _-_, _≤_, _<_}
 use mathlib.Core.Path.{_≡_, refl, sym, ap, ap₂, _∙_}
-use mathlib.Core.Bool.{true, false}
+use mathlib.Core.Bool.{true}
 use mathlib.Core.List.{List, [], _++_, append-assoc}
 use native.Mathlib.Numerals.{add-one}
 use native.Mathlib.Omega.{arith}
 use lib.ListN.{length, getD, take, drop, length-take}
 use lib.Seq.{getD-take}
-use lib.Dec.{ltb}
-use borrow.Author.Tests.{ltb-false, lt-ltb, le-ltb}
-use Rattle.words.proofs.Tests.{neither}
+use borrow.Author.Tests.{lt-ltb, le-ltb}
 use Rattle.block.specs.Layout.{limit}
 use Rattle.block.specs.Block.{posts, order, Headed}
 use Rattle.lamp.specs.Lamp.{Row, checkRows, sheetRows, stageRow, stageRows, roomRows}
 use Rattle.lamp.specs.Given.{Reply, accepted, refused, given, checkReply, NoneApplies}
 use Rattle.lamp.proofs.Given.{given-none, given-says, given-first, given-refused, refused-any, not-both, none-left, none-right, none-both}
 use Rattle.lamp.proofs.Loads.{order-length}
-use Rattle.lamp.proofs.Accepts.{accepted-none, accepted-framed}
+use Rattle.lamp.proofs.Accepts.{none-accepted, accepted-none, accepted-framed, stage-range}
 use Rattle.unit.specs.Replies.{stageAt, sheetReply, bufferAfter}
 use Rattle.unit.proofs.Calls.{room-passes}
 use Rattle.unit.proofs.Written.{written, pairs-x, pairs-y}
@@ -56,17 +54,16 @@ module _ (s : List ℕ) (k : ℕ) where
     checks = none-left (checkRows s) (stageRows k) s none
 
     pub checked : checkReply s ≡ accepted (posts s)
-    unfolding checkReply
-    checked = given-none s posts (checkRows s) checks
+    checked = none-accepted s checks
 
-    range : (ltb k 3 ≡ false) × (ltb (posts s) k ≡ false)
-    range = neither (ltb k 3) (ltb (posts s) k) (none-right (checkRows s) (stageRows k) s none .0)
+    range : (3 ≤ k) × (k ≤ posts s)
+    range = stage-range s k (none-right (checkRows s) (stageRows k) s none)
 
     pub at-least : 3 ≤ k
-    at-least = ltb-false k 3 (range .0)
+    at-least = range .0
 
     pub at-most : k ≤ posts s
-    at-most = ltb-false (posts s) k (range .1)
+    at-most = range .1
 
     pub headed : Headed s (posts s)
     headed = let F = accepted-framed s (posts s) checked in record { is = refl; least = F .posts-least; most = F .posts-most; sized = F .size-right }

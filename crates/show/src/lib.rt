@@ -73,19 +73,13 @@ fn lines(vs: &[u16], b: &[u16], k: usize, out: &mut [u8], at: usize) -> usize
     end
 }
 
-fn no_names() -> [u16; Block::LIMIT]
-    ensures { λ r. ⌜ limit ≤ length r ⌝ }
-{
-    [0u16; Block::LIMIT]
-}
-
 // Stage k of a block of n posts, whose entries stand in b.
 fn whole_sheet(s: &[u8], n: usize, k: usize, b: &[u16], out: &mut [u8]) -> usize
     requires { ⌜ Headed (now s) n × (k ≤ n) × (2 * k ≤ length (now b)) ⌝ }
     ensures { λ e. ⌜ filling e (now (out .exit)) ≡ write (filling 0 (now (out .entry)))
         (headLine n k ++ linesTo k (entryLine (order (now (s .entry))) (now (b .entry)))) ⌝ }
 {
-    let mut vs = no_names();
+    let mut vs = block::no_names();
     words::unpack(s, Block::ORDER_AT, n, &mut vs);
     let head = head_line(n as u16, k as u16, out, 0);
     lines(&vs[..n], b, k, out, head)
@@ -156,17 +150,19 @@ pub fn no_bytes() -> [u8; READ]
     [0u8; READ]
 }
 
-// To standard output. What is written no contract can say; the functions that call it ask for it.
+// To standard output. What is written no contract can say; the next two ask for it.
 pub fn print(t: &[u8]) {
     io::write_all(STDOUT_FILENO, t);
 }
 
+// The whole text of the block's last stage.
 fn hand_last(s: &[u8], t: &[u8])
     requires { ⌜ now t ≡ lastText (now s) ⌝ }
 {
     print(t);
 }
 
+// The whole text of the stage that the word names.
 fn hand_stage(s: &[u8], word: &[u8], t: &[u8])
     requires { ⌜ now t ≡ stageText (now s) (now word) ⌝ }
 {

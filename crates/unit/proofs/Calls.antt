@@ -3,10 +3,8 @@ use Prim.Native.Nat.{ℕ, _+_, _*_, _≤_, _<_}
 use mathlib.Core.Path.{_≡_, refl, sym, ap, _∙_, subst, subst⁻¹}
 use mathlib.Core.List.{List, [], _++_}
 use native.Mathlib.Omega.{arith}
-use lib.Dec.{ltb}
 use lib.ListN.{length, take, drop}
 use borrow.Author.Tests.{lt-ltb, le-ltb, le-leb, lt-leb, ltb-false, leb-false}
-use Rattle.words.proofs.Tests.{neither}
 use Rattle.block.specs.Layout.{limit, entries}
 use Rattle.block.specs.Block.{posts, lists}
 use Rattle.rings.specs.Held.{held}
@@ -29,7 +27,7 @@ use Rattle.lamp.specs.declared.Answer.the-variants.{Refused}
 use Rattle.lamp.proofs.Given.{given-first, given-past, given-none, refused-any, none-both}
 use Rattle.lamp.proofs.Tried.{stops}
 use Rattle.lamp.proofs.Loads.{trimmed}
-use Rattle.lamp.proofs.Accepts.{none-passes, accepted-none}
+use Rattle.lamp.proofs.Accepts.{none-passes, accepted-none, stage-range}
 use Rattle.unit.specs.declared.Ask.{Ask}
 use Rattle.unit.specs.Replies.{stageAt, sheetReply, bufferFor, bufferAfter, postReply}
 use Rattle.unit.specs.Asked.{furtherRows, Within, Tells, Serves}
@@ -62,9 +60,7 @@ name-passes s u h = (lt-leb (posts s) u h, tt)
 
 -- where none applies, the stage and what is asked of it fit
 pub asked-stage : (ask : Ask) (s : List ℕ) (k room : ℕ) → NoneApplies (furtherRows ask k room) s → (3 ≤ k) × (k ≤ posts s)
-asked-stage ask s k room h =
-    let in-range = neither (ltb k 3) (ltb (posts s) k) (h .0) in
-    (ltb-false k 3 (in-range .0), ltb-false (posts s) k (in-range .1))
+asked-stage ask s k room h = stage-range s k (h .0, tt)
 
 pub within : (ask : Ask) (s : List ℕ) (k room n : ℕ) → n ≡ posts s → NoneApplies (furtherRows ask k room) s → Within ask k n room
 within Ask.Sheet s k room n is h = ltb-false room (2 * k) (search)

@@ -13,8 +13,8 @@ use Rattle.lamp.specs.Lamp.{checkRows, sheetRows, postRows}
 use Rattle.lamp.specs.Given.{Reply, accepted, refused, checkReply}
 use Rattle.unit.specs.Replies.{stageAt, sheetReply, bufferFor, bufferAfter, postReply}
 use Rattle.unit.specs.Demands.{Services, thePaper, Accepted, Refused, Demand1, Sound, Demand2, Demand3}
-use Rattle.lamp.proofs.Given.{given-none, given-fixed, fixed-one, accepted-is, not-both}
-use Rattle.lamp.proofs.Accepts.{lists-count, none-passes, passes-none, accepted-none, accepted-posts, accepted-framed}
+use Rattle.lamp.proofs.Given.{given-fixed, fixed-one, accepted-is, not-both}
+use Rattle.lamp.proofs.Accepts.{lists-count, none-passes, passes-none, none-accepted, accepted-none, accepted-posts, accepted-framed}
 use Rattle.unit.proofs.DemandThree.{demand-3}
 
 -- a reply is an acceptance or a refusal
@@ -48,9 +48,8 @@ module _ (s : List ℕ) where
       (passes-sound (lists s) (order s) (none-passes s (accepted-none s n e)))
 
   pub sound-accepted : Framed s → Sound s → checkReply s ≡ accepted (posts s)
-  unfolding checkReply
   sound-accepted F S =
-      given-none s posts (checkRows s)
+      none-accepted s
       (passes-none s
       (sound-passes (lists s) (order s)
       (subst (λ (m : ℕ). Plane (lists s) (post (order s) 1) (post (order s) 2) (post (order s) m) × Canonical (lists s) (order s)) (sym (lists-count s)) S))

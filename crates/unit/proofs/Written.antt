@@ -6,15 +6,14 @@ use mathlib.Core.Logic.{inl, inr}
 use mathlib.Core.List.{List, [], _∷_, _++_, flatMap}
 use native.Mathlib.Omega.{arith}
 use native.Mathlib.Decide.{decLt}
-use lib.Dec.{ltb, eqb}
+use lib.Dec.{eqb}
 use lib.ListN.{length, getD, take, drop, length-take}
 use lib.Seq.{getD-take}
-use borrow.Author.Tests.{eq-eqb, eqb-true, ltb-false}
+use borrow.Author.Tests.{eq-eqb, eqb-true}
 use Rattle.words.specs.Lists.{In}
 use Rattle.words.specs.Positions.{post}
 use Rattle.words.proofs.First.{first-is}
 use Rattle.words.proofs.Positions.{in-take, take-in, post-suc}
-use Rattle.words.proofs.Tests.{neither}
 use Rattle.block.specs.Block.{posts, order, lists}
 use Rattle.rings.specs.Plane.{Wire}
 use Rattle.placing.specs.Stages.{stage}
@@ -27,7 +26,7 @@ use Rattle.unit.specs.Replies.{stageAt, sheetReply}
 use Rattle.unit.specs.Demands.{thePaper, Accepted, places, Placed, Moves, positionOf, onSheet, Safe, SafeSheets}
 use Rattle.lamp.proofs.Given.{given-says, none-left, none-right}
 use Rattle.lamp.proofs.Loads.{order-length}
-use Rattle.lamp.proofs.Accepts.{lists-count, none-passes}
+use Rattle.lamp.proofs.Accepts.{lists-count, none-passes, stage-range}
 use Rattle.unit.proofs.DemandThree.{Passing, on-grid, no-short, moves}
 use Rattle.unit.proofs.Demanded.{second-demand}
 
@@ -96,14 +95,16 @@ module _ (s : List ℕ) (k : ℕ) (b : List ℕ) (a : Accepted (sheetReply s k b
   pub sheet-passes : Passing s
   sheet-passes = record { passes = none-passes s (none-left (checkRows s) (stageRows k ++ roomRows k (length b)) s none); all = sym (lists-count s) }
 
-  inside : (ltb k 3 ≡ false) × (ltb (posts s) k ≡ false)
-  inside = neither (ltb k 3) (ltb (posts s) k) (none-right (checkRows s) (stageRows k ++ roomRows k (length b)) s none .0)
+  inside : (3 ≤ k) × (k ≤ posts s)
+  inside =
+      let own = stageRows k ++ roomRows k (length b) in
+      stage-range s k (none-left (stageRows k) (roomRows k (length b)) s (none-right (checkRows s) own s none))
 
   pub sheet-least : 3 ≤ k
-  sheet-least = ltb-false k 3 (inside .0)
+  sheet-least = inside .0
 
   pub sheet-most : k ≤ posts s
-  sheet-most = ltb-false (posts s) k (inside .1)
+  sheet-most = inside .1
 
   -- the buffer's entries are where the posts stand
   pub written : thePaper .buffer s k b ≡ flatMap (λ u. stageAt k s .x u ∷ stageAt k s .y u ∷ []) (take k (order s)) ++ drop (2 * k) b

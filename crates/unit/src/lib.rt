@@ -20,12 +20,6 @@ use placing::Standing;
 
 const PLACES: usize = Block::LIMIT + 1;
 
-fn no_names() -> [u16; Block::LIMIT]
-    ensures { λ r. ⌜ limit ≤ length r ⌝ }
-{
-    [0u16; Block::LIMIT]
-}
-
 fn no_places() -> [u16; PLACES]
     ensures { λ r. ⌜ limit + 1 ≤ length r ⌝ }
 {
@@ -42,11 +36,11 @@ fn no_entries() -> [u16; Block::ENTRIES]
 pub fn check(s: &[u8]) -> Answer
     ensures { λ r. ⌜ CheckPromise (now (s .entry)) r ⌝ }
 {
-    let mut vs = no_names();
-    let mut ds = no_names();
+    let mut vs = block::no_names();
+    let mut ds = block::no_names();
     let mut at = no_places();
     let mut ents = no_entries();
-    let mut rank = no_names();
+    let mut rank = block::no_names();
     lamp::check_into(s, &mut vs, &mut ds, &mut at, &mut ents, &mut rank)
 }
 
@@ -125,12 +119,12 @@ fn drawn(
     ensures { λ r. ⌜ Tells ask k (stage (held (now (at .entry)) (now (ents .entry))) (take k (now (vs .entry))))
         (now (buffer .entry)) r (now (buffer .exit)) ⌝ }
 {
-    let mut ys = no_names();
-    let mut off = no_names();
-    let mut cover = no_names();
-    let mut left = no_names();
-    let mut right = no_names();
-    let mut xs = no_names();
+    let mut ys = block::no_names();
+    let mut off = block::no_names();
+    let mut cover = block::no_names();
+    let mut left = block::no_names();
+    let mut right = block::no_names();
+    let mut xs = block::no_names();
     match ask {
         Ask::Sheet => {
             engine::sheet_at(
@@ -202,11 +196,11 @@ fn answered(
 fn serve(s: &[u8], k: usize, ask: Ask, buffer: &mut [u16]) -> Served
     ensures { λ r. ⌜ Serves ask k (now (s .entry)) (now (buffer .entry)) r (now (buffer .exit)) ⌝ }
 {
-    let mut vs = no_names();
-    let mut ds = no_names();
+    let mut vs = block::no_names();
+    let mut ds = block::no_names();
     let mut at = no_places();
     let mut ents = no_entries();
-    let mut rank = no_names();
+    let mut rank = block::no_names();
     let answer = lamp::check_into(s, &mut vs, &mut ds, &mut at, &mut ents, &mut rank);
     let Answer::Accepted(posts) = answer else {
         return Served {
