@@ -56,7 +56,14 @@ pub const NUMBERS: &[Line] = &[
     (15, &[Sheet, Post, StageProgram], NO_STAGE),
     (16, &[Sheet], NO_BUFFER),
     (17, &[Post], "the others are asked for no name"),
+    (18, &SERVICES, ""),
+    (19, &SERVICES, ""),
+    (20, &SERVICES, ""),
 ];
+
+/// The refusals by an entry of a list, all at one place in the order of trial:
+/// no post's name, the post itself, a repeat, not returned.
+pub const BY_ENTRY: [u16; 4] = [9, 18, 19, 20];
 
 /// The refusals by the order's rule at a position, which steps 1 to 11 come before.
 pub const BY_POSITION: [u16; 2] = [12, 13];
@@ -172,6 +179,7 @@ mod tests {
             (Check, 14),
             (Check, 16),
             (Sheet, 17),
+            (Sheet, 21),
             (Post, 99),
             (SheetProgram, 15),
             (StageProgram, 16),
@@ -188,6 +196,13 @@ mod tests {
         replies.0.remove(&(Check, 2));
         replies.0.remove(&(StageProgram, 15));
         assert_eq!(replies.never(&PROGRAMS), ["bin/stage never gave 15"]);
+        for number in BY_ENTRY {
+            let mut replies = all_that_can_come();
+            replies.0.remove(&(StageProgram, number));
+            let never = [format!("bin/stage never gave {number}")];
+            assert_eq!(replies.never(&PROGRAMS), never);
+            assert_eq!(replies.faults(true), never);
+        }
         assert_eq!(replies.never(&[SheetProgram]), [""; 0]);
     }
 }
