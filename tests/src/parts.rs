@@ -1,5 +1,6 @@
 //! The parts of the test program.
 
+mod lists;
 mod printed;
 mod right;
 mod wrong;
@@ -32,6 +33,7 @@ pub const PARTS: &[Part] = parts![
     "orders", "every order of every board up to 7 posts": right::every_order_of_small_boards;
     "middling", "random boards up to 60 posts, every stage": right::middling_boards;
     "damage", "damaged blocks": wrong::damaged_blocks;
+    "lists", "lists damaged on purpose, on boards of every kind": lists::damaged_lists;
     "bytes", "every byte of T and D changed to every value": wrong::every_byte_changed;
     "pieces", "boards in pieces": wrong::boards_in_pieces;
     "chance", "bytes by chance": wrong::chance_bytes;
