@@ -6,7 +6,7 @@
 mod drawing;
 mod print;
 
-pub use print::{number, refused_text, sheet_text, usage_text};
+pub use print::{number, refused_text, sheet_text, usage_text, why_text};
 
 use crate::layout::{FEWEST, MOST};
 use crate::reply::{Record, Refusal};

@@ -2,7 +2,7 @@
 //! in a whole run, and no other may.
 
 use std::collections::BTreeMap;
-use Service::{Check, Post, Sheet, SheetProgram, StageProgram};
+use Service::{Check, Post, Sheet, SheetProgram, StageProgram, WhyProgram};
 
 /// The services, and the programs that print what they reply.
 #[derive(Clone, Copy, PartialEq, Eq, PartialOrd, Ord, Debug)]
@@ -12,12 +12,13 @@ pub enum Service {
     Post,
     SheetProgram,
     StageProgram,
+    WhyProgram,
 }
 
-pub const SERVICES: [Service; 5] = [Check, Sheet, Post, SheetProgram, StageProgram];
+pub const SERVICES: [Service; 6] = [Check, Sheet, Post, SheetProgram, StageProgram, WhyProgram];
 
 /// The programs among them.
-pub const PROGRAMS: [Service; 2] = [SheetProgram, StageProgram];
+pub const PROGRAMS: [Service; 3] = [SheetProgram, StageProgram, WhyProgram];
 
 impl Service {
     pub fn name(self) -> &'static str {
@@ -27,6 +28,7 @@ impl Service {
             Post => "post",
             SheetProgram => "bin/sheet",
             StageProgram => "bin/stage",
+            WhyProgram => "bin/why",
         }
     }
 }
@@ -34,7 +36,7 @@ impl Service {
 /// A refusal's number, the services that can give it, and why no other can.
 type Line = (u16, &'static [Service], &'static str);
 
-const NO_STAGE: &str = "check is asked for no stage, and bin/sheet prints the last one";
+const NO_STAGE: &str = "check and bin/why are asked for no stage, bin/sheet prints the last one";
 const NO_BUFFER: &str = "check and post are lent no buffer, and the programs' is long enough";
 
 /// The refusals, a line for each number.
@@ -183,6 +185,10 @@ mod tests {
             (Post, 99),
             (SheetProgram, 15),
             (StageProgram, 16),
+            (WhyProgram, 14),
+            (WhyProgram, 15),
+            (WhyProgram, 17),
+            (WhyProgram, 21),
         ] {
             let mut replies = all_that_can_come();
             replies.count(service, Some(number), 2);
@@ -198,8 +204,8 @@ mod tests {
         assert_eq!(replies.never(&PROGRAMS), ["bin/stage never gave 15"]);
         for number in BY_ENTRY {
             let mut replies = all_that_can_come();
-            replies.0.remove(&(StageProgram, number));
-            let never = [format!("bin/stage never gave {number}")];
+            replies.0.remove(&(WhyProgram, number));
+            let never = [format!("bin/why never gave {number}")];
             assert_eq!(replies.never(&PROGRAMS), never);
             assert_eq!(replies.faults(true), never);
         }
