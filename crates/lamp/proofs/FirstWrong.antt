@@ -181,20 +181,20 @@ module _ (number : ℕ) (h : In number listNumbers) where
   before-others : NoneIs number before
   unfolding mem
   before-others =
-      let five : NoneIs number headerRows = (other 1 refl, (other 2 refl, (other 3 refl, (other 4 refl, (other 5 refl, tt))))) in
-      is-both number headerRows (sumRows ++ orderRows ++ degreeRows) five (other 6 refl, (other 7 refl, (other 8 refl, tt)))
+      let five : NoneIs number headerRows = (other _ refl, (other _ refl, (other _ refl, (other _ refl, (other _ refl, tt))))) in
+      is-both number headerRows (sumRows ++ orderRows ++ degreeRows) five (other _ refl, (other _ refl, (other _ refl, tt)))
 
   fitting-others : (m k : ℕ) → NoneIs number (flatMap positionRows (numbers k m))
   unfolding flatMap numbers positionRows mem
   fitting-others zero k = tt
-  fitting-others (suc m) k = (other 12 refl, (other 13 refl, fitting-others m (suc k)))
+  fitting-others (suc m) k = (other _ refl, (other _ refl, fitting-others m (suc k)))
 
   abbrev behind : List ℕ → List Row
   behind s = (triangleRows ++ outerRows) ++ fittingRows s
 
   behind-others : (s : List ℕ) → NoneIs number (behind s)
   unfolding mem
-  behind-others s = (other 10 refl, (other 11 refl, fitting-others (posts s - 2) 3))
+  behind-others s = (other _ refl, (other _ refl, fitting-others (posts s - 2) 3))
 
   -- check's rows, and after them any with other numbers
   told-wrong : {A : Type 0} (answer : List ℕ → A) (s : List ℕ) (place : ℕ) (after : List Row) → NoneIs number after
@@ -212,12 +212,12 @@ module _ (number : ℕ) (h : In number listNumbers) where
   told-sheet : {A : Type 0} (answer : List ℕ → A) (s : List ℕ) (k room place : ℕ) → given (sheetRows s k room) s answer ≡ refused number place
       → FirstWrong (lists s) place number
   unfolding sheetRows mem
-  told-sheet answer s k room place e = told-wrong answer s place (stageRows k ++ roomRows k room) (other 15 refl, (other 16 refl, tt)) e
+  told-sheet answer s k room place e = told-wrong answer s place (stageRows k ++ roomRows k room) (other _ refl, (other _ refl, tt)) e
 
   told-post : {A : Type 0} (answer : List ℕ → A) (s : List ℕ) (k u place : ℕ) → given (postRows s k u) s answer ≡ refused number place
       → FirstWrong (lists s) place number
   unfolding postRows mem
-  told-post answer s k u place e = told-wrong answer s place (stageRows k ++ nameRows u) (other 15 refl, (other 17 refl, tt)) e
+  told-post answer s k u place e = told-wrong answer s place (stageRows k ++ nameRows u) (other _ refl, (other _ refl, tt)) e
 
 -- ---- one name and one number
 equal : (a b : ℕ) → ¬ (a < b) → ¬ (b < a) → a ≡ b

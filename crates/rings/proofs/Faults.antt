@@ -106,33 +106,6 @@ module _ (G : List (List ℕ)) (u : ℕ) where
       go (yes h) = (h, F .there (omega arith))
       go (no n) = absurd (true≢false (sym (fine-rule (λ i h. F .before i (omega arith) (omega arith))) ∙ e))
 
--- ---- an entry's fault as the code tells it
-
-fault-bad : (u : ℕ) (a b c d : Bool) → (cond a (High u) (cond b (Itself u) (cond c (Repeated u) (cond d (Unreturned u) Sound))) ≡ Sound → ⊥)
-    → a || (b || (c || d)) ≡ true
-fault-bad u true b c d n = refl
-fault-bad u false true c d n = refl
-fault-bad u false false true d n = refl
-fault-bad u false false false true n = refl
-fault-bad u false false false false n = absurd (n refl)
-
-no-fault : (u : ℕ) (a b c d : Bool) → cond a (High u) (cond b (Itself u) (cond c (Repeated u) (cond d (Unreturned u) Sound))) ≡ Sound
-    → a || (b || (c || d)) ≡ false
-no-fault u true b c d e = absurd (let z : _≡_ {A = ℕ} 0 1 = cc in omega arith)
-no-fault u false true c d e = absurd (let z : _≡_ {A = ℕ} 0 1 = cc in omega arith)
-no-fault u false false true d e = absurd (let z : _≡_ {A = ℕ} 0 1 = cc in omega arith)
-no-fault u false false false true e = absurd (let z : _≡_ {A = ℕ} 0 1 = cc in omega arith)
-no-fault u false false false false e = refl
-
-module _ (G : List (List ℕ)) (u i : ℕ) where
-  pub fault-is-bad : (faultAt G u i ≡ Sound → ⊥) → isBad G u i ≡ true
-  unfolding faultAt isBad
-  fault-is-bad n = fault-bad u (isHigh G u i) (isItself G u i) (isRepeated G u i) (isUnreturned G u i) n
-
-  pub sound-is-good : faultAt G u i ≡ Sound → isBad G u i ≡ false
-  unfolding faultAt isBad
-  sound-is-good e = no-fault u (isHigh G u i) (isItself G u i) (isRepeated G u i) (isUnreturned G u i) e
-
 -- ---- an entry in the code's arrays, by what the code compared
 
 take-drop : (b m : ℕ) (l : List ℕ) → take m (drop b l) ≡ drop b (take (b + m) l)
@@ -208,6 +181,33 @@ module _ (at ents : List ℕ) (C : Cuts at ents) (u b i : ℕ) (is : u + 1 < len
 
           pub is-unreturned : r ≡ false → Unreturned u ≡ faultAt G u (i - b)
           is-unreturned q = ap (λ (x : Bool). cond x Sound (Unreturned u)) (sym q) ∙ last
+
+-- ---- an entry's fault as the code tells it
+
+fault-bad : (u : ℕ) (a b c d : Bool) → (cond a (High u) (cond b (Itself u) (cond c (Repeated u) (cond d (Unreturned u) Sound))) ≡ Sound → ⊥)
+    → a || (b || (c || d)) ≡ true
+fault-bad u true b c d n = refl
+fault-bad u false true c d n = refl
+fault-bad u false false true d n = refl
+fault-bad u false false false true n = refl
+fault-bad u false false false false n = absurd (n refl)
+
+no-fault : (u : ℕ) (a b c d : Bool) → cond a (High u) (cond b (Itself u) (cond c (Repeated u) (cond d (Unreturned u) Sound))) ≡ Sound
+    → a || (b || (c || d)) ≡ false
+no-fault u true b c d e = absurd (let z : _≡_ {A = ℕ} 0 1 = cc in omega arith)
+no-fault u false true c d e = absurd (let z : _≡_ {A = ℕ} 0 1 = cc in omega arith)
+no-fault u false false true d e = absurd (let z : _≡_ {A = ℕ} 0 1 = cc in omega arith)
+no-fault u false false false true e = absurd (let z : _≡_ {A = ℕ} 0 1 = cc in omega arith)
+no-fault u false false false false e = refl
+
+module _ (G : List (List ℕ)) (u i : ℕ) where
+  pub fault-is-bad : (faultAt G u i ≡ Sound → ⊥) → isBad G u i ≡ true
+  unfolding faultAt isBad
+  fault-is-bad n = fault-bad u (isHigh G u i) (isItself G u i) (isRepeated G u i) (isUnreturned G u i) n
+
+  pub sound-is-good : faultAt G u i ≡ Sound → isBad G u i ≡ false
+  unfolding faultAt isBad
+  sound-is-good e = no-fault u (isHigh G u i) (isItself G u i) (isRepeated G u i) (isUnreturned G u i) e
 
 -- ---- the loop over u's list, from b to e: what is left to look at
 
