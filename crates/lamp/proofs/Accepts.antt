@@ -19,13 +19,14 @@ use Rattle.block.specs.Block.{posts, order, degrees, listsFrom, lists, Framed}
 use Rattle.rings.specs.Rings.{ringRule, triangleRule, outerRule}
 use Rattle.order.specs.Order.{twoPlaced, oneRun}
 use Rattle.order.proofs.Sound.{Boarded, Passes}
-use Rattle.lamp.specs.Lamp.{someName, entryFault, degreeFault, ringFault, triangleFault, entryRow, degreeRow, ringRow, triangleRow, outerRow}
-use Rattle.lamp.specs.Lamp.{fewRow, brokenRow, headerRows, sumRows, orderRows, degreeRows, ringRows, triangleRows, outerRows, positionRows}
+use Rattle.lamp.specs.Lamp.{someName, entryFault, degreeFault, ringFault, triangleFault, entryRow, degreeRow, highRow, itselfRow}
+use Rattle.lamp.specs.Lamp.{repeatedRow, unreturnedRow, triangleRow, outerRow, fewRow, brokenRow, headerRows, sumRows, orderRows, degreeRows, ringRows, triangleRows, outerRows, positionRows}
 use Rattle.lamp.specs.Lamp.{fittingRows, stageRows, Row, blockRows, checkRows}
 use Rattle.lamp.specs.Given.{accepted, checkReply, NoneApplies}
 use Rattle.lamp.proofs.Given.{given-says, given-none, accepted-is, none-left, none-right, none-both}
 use Rattle.lamp.proofs.Heads.{framed, framed-none}
 use Rattle.lamp.proofs.Loads.{order-length, totalled}
+use Rattle.lamp.proofs.RingRows.{rings-none, none-rings}
 
 -- ---- the lists are as long as the degrees say
 
@@ -86,7 +87,11 @@ module _ (s : List ℕ) where
       let n = lists-count s in
       let entry : entryRow .when s ≡ false = search in
       let degree : degreeRow .when s ≡ false = search in
-      let ring : ringRow .when s ≡ false = search in
+      let high : highRow .when s ≡ false = search in
+      let itself : itselfRow .when s ≡ false = search in
+      let repeated : repeatedRow .when s ≡ false = search in
+      let unreturned : unreturnedRow .when s ≡ false = search in
+      let ring = none-rings s (high, (itself, (repeated, (unreturned, tt)))) in
       let triangle : triangleRow .when s ≡ false = search in
       let outer : outerRow .when s ≡ false = search in
       let d = neither (someName degreeFault s) _ degree in
@@ -168,8 +173,8 @@ module _ (s : List ℕ) where
         let total : sumOf (degrees s) ≡ entries (posts s) = rw (lists-degrees s, n-is) at (B .total) in
         rw (each, eq-eqb (sumOf (degrees s)) (entries (posts s)) total) refl
 
-    no-ring : ringRow .when s ≡ false
-    no-ring = some-false (ringFault s) 0 (posts s) (λ u a b. ap not (B .rings u (omega (arith, n-is))))
+    no-ring : NoneApplies ringRows s
+    no-ring = rings-none s (some-false (ringFault s) 0 (posts s) (λ u a b. ap not (B .rings u (omega (arith, n-is)))))
 
     no-triangle : triangleRow .when s ≡ false
     no-triangle = some-false (triangleFault s) 0 (posts s) (λ u a b. ap not (B .triangles u (omega (arith, n-is))))
@@ -188,7 +193,7 @@ module _ (s : List ℕ) where
     unfolding blockRows
     block-none F =
         none-both (headerRows ++ sumRows) (orderRows ++ degreeRows ++ ringRows ++ triangleRows ++ outerRows) s (framed-none s F)
-        (no-entry, (no-degree, (no-ring, (no-triangle, (no-outer, tt)))))
+        (no-entry, (no-degree, none-both ringRows (triangleRows ++ outerRows) s no-ring (no-triangle, (no-outer, tt))))
 
     pub passes-none : Framed s → NoneApplies (checkRows s) s
     unfolding checkRows

@@ -12,21 +12,25 @@ use Rattle.words.specs.Positions.{post, earlier}
 use Rattle.words.proofs.First.{some-none}
 use Rattle.block.specs.Block.{posts, order, lists}
 use Rattle.rings.specs.Rings.{ringRule, triangleRule, outerRule}
+use Rattle.rings.specs.Faults.{faultOf}
 use Rattle.rings.specs.Held.{held}
+use Rattle.rings.specs.declared.ListFault.{ListFault}
 use Rattle.order.specs.Order.{twoPlaced, oneRun}
 use Rattle.rings.proofs.Held.{held-length}
 use Rattle.order.specs.Ranked.{RankedBelow, Ranked, Listed, fitOf}
 use Rattle.order.specs.declared.Fit.{Fit}
 use Rattle.order.proofs.Sound.{position-says}
-use Rattle.lamp.specs.Lamp.{name, ringFault, triangleFault, ringRow, triangleRow, outerRow, fewRow, brokenRow, ringRows, triangleRows}
+use Rattle.lamp.specs.Lamp.{name, ringFault, triangleFault, triangleRow, outerRow, fewRow, brokenRow, ringRows, triangleRows}
 use Rattle.lamp.specs.Lamp.{outerRows, positionRows, checkRows, blockRows, headerRows, sumRows}
 use Rattle.lamp.specs.Given.{accepted, refused, replyOf, given, checkReply, NoneApplies}
 use Rattle.lamp.specs.Loaded.{loadRows, loadedRows, rowsFrom, Trimmed, Entered, Ringed}
-use Rattle.lamp.specs.declared.Refusal.the-variants.{Ring, Triangle, Outer, Few, Broken}
+use Rattle.lamp.specs.declared.Refusal.the-variants.{Triangle, Outer, Few, Broken}
 use Rattle.lamp.specs.declared.Answer.{Answer}
 use Rattle.lamp.specs.declared.Answer.the-variants.{Accepted, Refused}
 use Rattle.lamp.proofs.Given.{given-first, given-past, given-none, given-says, given-refused, refused-any}
 use Rattle.lamp.proofs.Tried.{found, not-found}
+use Rattle.lamp.proofs.Accepts.{lists-count}
+use Rattle.lamp.proofs.RingRows.{listsAnswer, none-rings, fault-reply}
 
 -- what the code answers for what the rule found in position k
 abbrev pub answerAt : ℕ → Fit → Answer
@@ -48,17 +52,10 @@ module _ (s vs at ents : List ℕ) (L : Trimmed s vs at ents) where
 
   -- ---- the rings
 
-  module _ (u : ℕ) (eu : u ≡ first 0 (length at - 1) (λ z. not (ringRule (held at ents) z))) where
-    ring-is : u ≡ name ringFault s
-    ring-is = first-as ringRule u eu
-
-    pub ring-bad : u < length vs → replyOf (Refused (Ring u)) ≡ given ringRows s posts
-    ring-bad h =
-        ap (λ (z : ℕ). replyOf (Refused (Ring z))) ring-is
-        ∙ sym (given-first s posts [] ringRow [] tt (found (ringFault s) 0 (posts s) u ring-is (omega (arith, n-is))))
-
-    pub rings-pass : length vs ≤ u → NoneApplies ringRows s
-    rings-pass h = (not-found (ringFault s) 0 (posts s) u ring-is (omega (arith, n-is)), tt)
+  pub rings-found : (f : ListFault) → f ≡ faultOf (held at ents) → replyOf (listsAnswer (length vs) f) ≡ given ringRows s posts
+  rings-found f e =
+      let q = e ∙ ap faultOf (L .rings) in
+      ap (λ (g : ListFault). replyOf (listsAnswer (length vs) g)) q ∙ fault-reply s (length vs) n-is (lists-count s)
 
   -- ---- the triangles
 
@@ -130,7 +127,7 @@ pub ringed : (s : List ℕ) → Entered s → NoneApplies ringRows s → Ringed 
 ringed s e h =
     record {
       entries-fine = e;
-      rings-fine = λ u l. not-false (ringRule (lists s) u) (some-none (ringFault s) 0 (posts s) (h .0) u (omega arith) (omega arith));
+      rings-fine = λ u l. not-false (ringRule (lists s) u) (some-none (ringFault s) 0 (posts s) (none-rings s h) u (omega arith) (omega arith));
     }
 
 -- ---- the rows of the positions from k on

@@ -2,8 +2,10 @@ pub mod Given
 pub mod Tried
 pub mod Heads
 pub mod Loads
+pub mod RingRows
 pub mod BoardRows
 pub mod Accepts
 pub mod Retired
+pub mod Finer
 pub mod ReadBack
 pub mod Places

@@ -71,7 +71,12 @@ module _ (s : List ℕ) where
   header-sized : (m : ℕ) → SizedRows m s headerRows
   header-sized m = ((λ e. omega arith), ((λ e. omega arith), ((λ e. omega arith), ((λ e. omega arith), ((λ e. omega arith), tt)))))
 
-  -- a row each: sum, order, degrees, rings, triangles, outer triangle
+  rings-sized : SizedRows n s ringRows
+  rings-sized =
+      let low = a-name (ringFault s) in
+      ((λ e. omega arith), ((λ e. omega arith), ((λ e. omega arith), ((λ e. omega arith), tt))))
+
+  -- sum, order, degrees; rings; triangles, outer triangle
   content-sized : SizedRows n s contentRows
   content-sized = (
     (λ e. omega arith),
@@ -79,7 +84,7 @@ module _ (s : List ℕ) where
       (λ e. omega (arith, a-position (entryFault s) e)),
       (
         (λ e. omega (arith, a-name (degreeFault s))),
-        ((λ e. omega (arith, a-name (ringFault s))), ((λ e. omega (arith, a-name (triangleFault s))), ((λ e. omega arith), tt))),
+        sized-both n s ringRows (triangleRows ++ outerRows) rings-sized ((λ e. omega (arith, a-name (triangleFault s))), ((λ e. omega arith), tt)),
       ),
     ),
   )

@@ -8,8 +8,8 @@ use Rattle.lamp.specs.ReadBack.{refusalsAt, withNumber, refusalOf, ToldA
 use Rattle.lamp.specs.declared.Answer.{Answer}
 use Rattle.lamp.specs.declared.Answer.the-variants.{Accepted, Refused}
 use Rattle.lamp.specs.declared.Refusal.{Refusal}
-use Rattle.lamp.specs.declared.Refusal.the-variants.{Short, Mark, Version, Posts, Length, Sum, Order, Degrees, Ring, Triangle, Outer, Few}
-use Rattle.lamp.specs.declared.Refusal.the-variants.{Broken, Stage, Room, Name}
+use Rattle.lamp.specs.declared.Refusal.the-variants.{Short, Mark, Version, Posts, Length, Sum, Order, Degrees, High, Itself}
+use Rattle.lamp.specs.declared.Refusal.the-variants.{Repeated, Unreturned, Triangle, Outer, Few, Broken, Stage, Room, Name}
 use Rattle.lamp.proofs.Given.{not-both}
 
 read-back : (r : Refusal) → refusalOf (numberOf r) (placeOf r) ≡ some r
@@ -22,7 +22,10 @@ read-back Length = refl
 read-back Sum = refl
 read-back (Order k) = refl
 read-back (Degrees u) = refl
-read-back (Ring u) = refl
+read-back (High u) = refl
+read-back (Itself u) = refl
+read-back (Repeated u) = refl
+read-back (Unreturned u) = refl
 read-back (Triangle u) = refl
 read-back Outer = refl
 read-back (Few k) = refl

@@ -20,8 +20,8 @@ use Rattle.lamp.specs.Lamp.{Row, blockRows, positionRows, fittingRows, c
 use Rattle.lamp.specs.Given.{refused, given, NoneApplies}
 use Rattle.lamp.specs.Refusals.{numberOf}
 use Rattle.lamp.specs.declared.Refusal.{Refusal}
-use Rattle.lamp.specs.declared.Refusal.the-variants.{Short, Mark, Version, Posts, Length, Sum, Order, Degrees, Ring, Triangle, Outer, Few}
-use Rattle.lamp.specs.declared.Refusal.the-variants.{Broken, Stage, Room, Name}
+use Rattle.lamp.specs.declared.Refusal.the-variants.{Short, Mark, Version, Posts, Length, Sum, Order, Degrees, High, Itself}
+use Rattle.lamp.specs.declared.Refusal.the-variants.{Repeated, Unreturned, Triangle, Outer, Few, Broken, Stage, Room, Name}
 use Rattle.lamp.specs.Retired.{retired, retiredRow, paperPositionRows, paperFittingRows, paperRows, NoneIs, Retirement}
 use Rattle.lamp.proofs.Given.{given-end, given-skip, given-stop, given-alike, given-none, given-says, not-both}
 use Rattle.lamp.proofs.Accepts.{lists-count, none-boarded, none-position}
@@ -82,7 +82,10 @@ refusals Length e = omega arith
 refusals Sum e = omega arith
 refusals (Order k) e = omega arith
 refusals (Degrees u) e = omega arith
-refusals (Ring u) e = omega arith
+refusals (High u) e = omega arith
+refusals (Itself u) e = omega arith
+refusals (Repeated u) e = omega arith
+refusals (Unreturned u) e = omega arith
 refusals (Triangle u) e = omega arith
 refusals Outer e = omega arith
 refusals (Few k) e = omega arith

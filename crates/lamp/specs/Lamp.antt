@@ -1,6 +1,6 @@
 -- Lamp red: the table of refusals. A row has its number, when it applies to a block, and the place it gives. The numbers are in Refusals.antt.
 use Prim.Native.Nat.{ℕ, _*_, _-_}
-use mathlib.Core.Bool.{Bool, not, _||_}
+use mathlib.Core.Bool.{Bool, not, _&&_, _||_}
 use mathlib.Core.List.{List, [], _∷_, _++_, flatMap}
 use lib.Dec.{ltb, leb, eqb}
 use lib.ListN.{length}
@@ -10,11 +10,12 @@ use Rattle.words.specs.Positions.{post, earlier}
 use Rattle.block.specs.Layout.{limit, entries, size}
 use Rattle.block.specs.Block.{version, posts, order, degrees, lists, statedSum, earlierSum, marked, badEntry, badDegree}
 use Rattle.rings.specs.Rings.{ringRule, triangleRule, outerRule}
+use Rattle.rings.specs.Faults.{isHigh, isItself, isRepeated, isUnreturned, firstBad}
 use Rattle.order.specs.Order.{twoPlaced, oneRun}
 use Rattle.lamp.specs.Refusals.{numberOf, placeOf}
 use Rattle.lamp.specs.declared.Refusal.{Refusal}
-use Rattle.lamp.specs.declared.Refusal.the-variants.{Short, Mark, Version, Posts, Length, Sum, Order, Degrees, Ring, Triangle, Outer, Few}
-use Rattle.lamp.specs.declared.Refusal.the-variants.{Broken, Stage, Room, Name}
+use Rattle.lamp.specs.declared.Refusal.the-variants.{Short, Mark, Version, Posts, Length, Sum, Order, Degrees, High, Itself}
+use Rattle.lamp.specs.declared.Refusal.the-variants.{Repeated, Unreturned, Triangle, Outer, Few, Broken, Stage, Room, Name}
 
 pub record Row : Type 0 where
   pub number : ℕ
@@ -80,8 +81,22 @@ entryRow = rowAt Order (position entryFault) (somePosition entryFault)
 abbrev pub degreeRow : Row
 degreeRow = rowAt Degrees (name degreeFault) (λ s. someName degreeFault s || not (eqb (sumOf (degrees s)) (entries (posts s))))
 
-abbrev pub ringRow : Row
-ringRow = rowAt Ring (name ringFault) (someName ringFault)
+-- of step 9: the first bad entry in the lowest list that breaks the ring rule has this fault. Its place is that list's name
+abbrev pub ringRow : (ℕ → Refusal) → (List (List ℕ) → ℕ → ℕ → Bool) → Row
+ringRow r fault =
+    rowAt r (name ringFault) (λ s. let G = lists s in let u = name ringFault s in someName ringFault s && fault G u (firstBad G u))
+
+abbrev pub highRow : Row
+highRow = ringRow High isHigh
+
+abbrev pub itselfRow : Row
+itselfRow = ringRow Itself isItself
+
+abbrev pub repeatedRow : Row
+repeatedRow = ringRow Repeated isRepeated
+
+abbrev pub unreturnedRow : Row
+unreturnedRow = ringRow Unreturned isUnreturned
 
 abbrev pub triangleRow : Row
 triangleRow = rowAt Triangle (name triangleFault) (someName triangleFault)
@@ -127,7 +142,7 @@ abbrev pub degreeRows : List Row
 degreeRows = degreeRow ∷ []
 
 abbrev pub ringRows : List Row
-ringRows = ringRow ∷ []
+ringRows = highRow ∷ itselfRow ∷ repeatedRow ∷ unreturnedRow ∷ []
 
 abbrev pub triangleRows : List Row
 triangleRows = triangleRow ∷ []

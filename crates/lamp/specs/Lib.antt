@@ -2,5 +2,6 @@ pub mod Refusals
 pub mod Lamp
 pub mod Given
 pub mod Retired
+pub mod Finer
 pub mod ReadBack
 pub mod Loaded

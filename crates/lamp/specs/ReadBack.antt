@@ -9,8 +9,8 @@ use Rattle.lamp.specs.Refusals.{toldOf, numberOf, placeOf}
 use Rattle.lamp.specs.Given.{replyOf}
 use Rattle.lamp.specs.declared.Answer.{Answer}
 use Rattle.lamp.specs.declared.Refusal.{Refusal}
-use Rattle.lamp.specs.declared.Refusal.the-variants.{Short, Mark, Version, Posts, Length, Sum, Order, Degrees, Ring, Triangle, Outer, Few}
-use Rattle.lamp.specs.declared.Refusal.the-variants.{Broken, Stage, Room, Name}
+use Rattle.lamp.specs.declared.Refusal.the-variants.{Short, Mark, Version, Posts, Length, Sum, Order, Degrees, High, Itself}
+use Rattle.lamp.specs.declared.Refusal.the-variants.{Repeated, Unreturned, Triangle, Outer, Few, Broken, Stage, Room, Name}
 
 -- every refusal; the ones that have a place, with this one
 unfoldable pub refusalsAt : ℕ → List Refusal
@@ -23,7 +23,10 @@ refusalsAt place =
     ∷ Sum
     ∷ Order place
     ∷ Degrees place
-    ∷ Ring place
+    ∷ High place
+    ∷ Itself place
+    ∷ Repeated place
+    ∷ Unreturned place
     ∷ Triangle place
     ∷ Outer
     ∷ Few place

@@ -2,8 +2,8 @@
 use Prim.Native.Nat.{ℕ}
 use Rattle.lamp.specs.declared.Told.{Told}
 use Rattle.lamp.specs.declared.Refusal.{Refusal}
-use Rattle.lamp.specs.declared.Refusal.the-variants.{Short, Mark, Version, Posts, Length, Sum, Order, Degrees, Ring, Triangle, Outer, Few}
-use Rattle.lamp.specs.declared.Refusal.the-variants.{Broken, Stage, Room, Name}
+use Rattle.lamp.specs.declared.Refusal.the-variants.{Short, Mark, Version, Posts, Length, Sum, Order, Degrees, High, Itself}
+use Rattle.lamp.specs.declared.Refusal.the-variants.{Repeated, Unreturned, Triangle, Outer, Few, Broken, Stage, Room, Name}
 
 abbrev pub tell : ℕ → ℕ → Told
 tell number place = record { number = number; place = place }
@@ -17,7 +17,10 @@ toldOf Length = tell 5 0
 toldOf Sum = tell 6 0
 toldOf (Order k) = tell 7 k
 toldOf (Degrees u) = tell 8 u
-toldOf (Ring u) = tell 9 u
+toldOf (High u) = tell 9 u
+toldOf (Itself u) = tell 18 u
+toldOf (Repeated u) = tell 19 u
+toldOf (Unreturned u) = tell 20 u
 toldOf (Triangle u) = tell 10 u
 toldOf Outer = tell 11 0
 toldOf (Few k) = tell 12 k

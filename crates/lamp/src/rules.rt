@@ -10,18 +10,21 @@ ghost use Rattle.lamp.specs.Loaded.{boardRows, rowsFrom, Trimmed, Ringed
 use crate::Answer;
 use crate::Refusal;
 use order::Fit;
+use rings::ListFault;
 
-// The ring rule.
+// The ring rule, by which fault it is that a list has.
 fn rings_of(s: &[u8], vs: &[u16], at: &[u16], ents: &[u16]) -> Answer
     requires { ⌜ Trimmed (now s) (now vs) (now at) (now ents) ⌝ }
     ensures { λ r. ⌜ replyOf r ≡ given ringRows (now (s .entry)) posts ⌝ }
 {
-    let n = vs.len();
-    let u = rings::first_bad_ring(ents, at);
-    if u < n {
-        return Answer::Refused(Refusal::Ring(u as u16));
+    let f = rings::first_bad_ring(ents, at);
+    match f {
+        ListFault::Sound => Answer::Accepted(vs.len() as u16),
+        ListFault::High(u) => Answer::Refused(Refusal::High(u)),
+        ListFault::Itself(u) => Answer::Refused(Refusal::Itself(u)),
+        ListFault::Repeated(u) => Answer::Refused(Refusal::Repeated(u)),
+        ListFault::Unreturned(u) => Answer::Refused(Refusal::Unreturned(u)),
     }
-    Answer::Accepted(n as u16)
 }
 
 // The triangle rule.

@@ -10,8 +10,8 @@ use Rattle.words.specs.Lists.{count}
 use Rattle.lamp.specs.Refusals.{numberOf, placeOf}
 use Rattle.lamp.specs.ReadBack.{refusalsAt, withNumber}
 use Rattle.lamp.specs.declared.Refusal.{Refusal}
-use Rattle.lamp.specs.declared.Refusal.the-variants.{Short, Mark, Version, Posts, Length, Sum, Order, Degrees, Ring, Triangle, Outer, Few}
-use Rattle.lamp.specs.declared.Refusal.the-variants.{Broken, Stage, Room, Name}
+use Rattle.lamp.specs.declared.Refusal.the-variants.{Short, Mark, Version, Posts, Length, Sum, Order, Degrees, High, Itself}
+use Rattle.lamp.specs.declared.Refusal.the-variants.{Repeated, Unreturned, Triangle, Outer, Few, Broken, Stage, Room, Name}
 use Rattle.text.specs.Letters.{numbered}
 use Rattle.text.proofs.Numerals.{isMark, numbered-length}
 use Rattle.reasons.specs.Reasons.{wordsOf, allDegrees, numberIn, wholeBoard, reasonOf, longestReason}
@@ -27,7 +27,10 @@ at-number Length = refl
 at-number Sum = refl
 at-number (Order k) = refl
 at-number (Degrees u) = refl
-at-number (Ring u) = refl
+at-number (High u) = refl
+at-number (Itself u) = refl
+at-number (Repeated u) = refl
+at-number (Unreturned u) = refl
 at-number (Triangle u) = refl
 at-number Outer = refl
 at-number (Few k) = refl
@@ -64,7 +67,10 @@ fits Length = omega arith
 fits Sum = omega arith
 fits (Order k) = omega arith
 fits (Degrees u) = omega arith
-fits (Ring u) = omega arith
+fits (High u) = omega arith
+fits (Itself u) = omega arith
+fits (Repeated u) = omega arith
+fits (Unreturned u) = omega arith
 fits (Triangle u) = omega arith
 fits Outer = omega arith
 fits (Few k) = omega arith

@@ -6,8 +6,8 @@ use lib.Dec.{eqb, leb}
 use Rattle.block.specs.Layout.{limit}
 use Rattle.lamp.specs.Refusals.{numberOf, placeOf}
 use Rattle.lamp.specs.declared.Refusal.{Refusal}
-use Rattle.lamp.specs.declared.Refusal.the-variants.{Short, Mark, Version, Posts, Length, Sum, Order, Degrees, Ring, Triangle, Outer, Few}
-use Rattle.lamp.specs.declared.Refusal.the-variants.{Broken, Stage, Room, Name}
+use Rattle.lamp.specs.declared.Refusal.the-variants.{Short, Mark, Version, Posts, Length, Sum, Order, Degrees, High, Itself}
+use Rattle.lamp.specs.declared.Refusal.the-variants.{Repeated, Unreturned, Triangle, Outer, Few, Broken, Stage, Room, Name}
 use Rattle.text.specs.Letters.{letters, numbered}
 
 -- at a position of the order; in a post's list
@@ -27,7 +27,10 @@ wordsOf Length = letters "the block has too few or too many bytes for its number
 wordsOf Sum = letters "the sum at the end is wrong: some byte was changed on the way"
 wordsOf (Order k) = atPosition (letters "a name that no post has, or one that came before")
 wordsOf (Degrees u) = letters "the degree of post # is below 2, or so high that there are not that many other posts"
-wordsOf (Ring u) = inList (letters "a name that no post has")
+wordsOf (High u) = inList (letters "a name that no post has")
+wordsOf (Itself u) = inList (letters "the post itself")
+wordsOf (Repeated u) = inList (letters "a name that stands there already")
+wordsOf (Unreturned u) = inList (letters "a post whose own list does not have post #; either of the two lists may be the wrong one")
 wordsOf (Triangle u) =
     letters "around post #: two neighbours stand side by side in its list, v and then w, but in the list of v post # does not come right after w; "
     ++ letters "v and w may not be wired, or a list may be out of sequence or clockwise"

@@ -68,9 +68,9 @@ fn words_of(k: usize, x: u16, out: &mut [u8], at: usize) -> usize
         there is no such stage: stages go from 3 to the number of posts\n\
         the sheet buffer is too short: it has fewer than two entries for each post of the stage\n\
         no post has that name\n\
-        \n\
-        \n\
-        \n",
+        in the list of post #: the post itself\n\
+        in the list of post #: a name that stands there already\n\
+        in the list of post #: a post whose own list does not have post #; either of the two lists may be the wrong one\n",
         k,
         x,
         out,

@@ -1,16 +1,14 @@
--- Rings as running code holds them: each is a part of the entries; and what the ring rule answers of an entry, by what the code compared.
+-- Rings as running code holds them: each is a part of the entries; and what the rules answer of them, by what the code compared.
 use Prim.Native.Nat.{ℕ, zero, suc, _+_, _-_, _≤_, _<_}
-use mathlib.Core.Path.{_≡_, refl, sym, _∙_}
+use mathlib.Core.Path.{_≡_, refl}
 use mathlib.Core.Bool.{Bool, true, false, not}
 use mathlib.Core.List.{List, [], _∷_}
 use native.Mathlib.Omega.{arith}
-use lib.Dec.{eqb}
 use lib.ListN.{length, getD, drop, List·getD-eq-default}
 use lib.Seq.{slice}
-use borrow.Author.Tests.{lt-ltb, le-ltb, eq-eqb, ne-eqb, not-true, not-false}
-use Rattle.words.specs.Lists.{mem, count, allOf}
-use Rattle.rings.specs.Rings.{ring, around, next, allNext, follows, entryRule, ringRule, triangleRule, outerRule}
-use Rattle.rings.proofs.Turns.{all-step, all-end, around-start, all-next-turn, all-next-done}
+use Rattle.words.specs.Lists.{mem}
+use Rattle.rings.specs.Rings.{ring, around, next, allNext, follows, triangleRule, outerRule}
+use Rattle.rings.proofs.Turns.{around-start, all-next-turn, all-next-done}
 use Rattle.rings.specs.Held.{held, Cuts}
 
 pub held-length : (at ents : List ℕ) → length (held at ents) ≡ length at - 1
@@ -41,35 +39,6 @@ module _ (at ents : List ℕ) where
   pub part-within : Cuts at ents → (u a b : ℕ) → u + 1 < length at → a ≡ getD at u 0 → b ≡ getD at (u + 1) 0 → (a ≤ b) × (b ≤ length ents)
   part-within C u a b h p q = (omega (arith, C .rise u h), omega (arith, C .within (u + 1) h))
 
-  module _ (u v : ℕ) where
-    pub breaks-high : length at - 1 ≤ v → true ≡ not (entryRule (held at ents) u v)
-    unfolding entryRule
-    breaks-high h = rw (le-ltb v (length (held at ents)) (omega (arith, held-length at ents))) refl
-
-    module _ (low : v < length at - 1) where
-      lowest : v < length (held at ents)
-      lowest = omega (arith, held-length at ents)
-
-      pub breaks-self : v ≡ u → true ≡ not (entryRule (held at ents) u v)
-      unfolding entryRule
-      breaks-self e = rw (lt-ltb v (length (held at ents)) lowest, eq-eqb v u e) refl
-
-      module _ (other : v ≡ u → ⊥) (is : u + 1 < length at) (c a b : ℕ) (ea : a ≡ getD at u 0) (eb : b ≡ getD at (u + 1) 0)
-          (ec : c ≡ count (eqb v) (slice a b ents)) where
-        counted : c ≡ count (eqb v) (ring (held at ents) u)
-        counted = rw (held-part u a b is ea eb) ec
-
-        pub breaks-twice : (c ≡ 1 → ⊥) → true ≡ not (entryRule (held at ents) u v)
-        unfolding entryRule
-        breaks-twice n =
-            rw (lt-ltb v (length (held at ents)) lowest, ne-eqb v u other, ← counted, ne-eqb c 1 n) refl
-
-        pub breaks-alone : c ≡ 1 → (y z : ℕ) → y ≡ getD at v 0 → z ≡ getD at (v + 1) 0 → (r : Bool) → r ≡ mem (slice y z ents) u
-            → not r ≡ not (entryRule (held at ents) u v)
-        unfolding entryRule
-        breaks-alone n y z ey ez r er =
-            rw (lt-ltb v (length (held at ents)) lowest, ne-eqb v u other, ← counted, eq-eqb c 1 n, held-part v y z (omega arith) ey ez, ← er) refl
-
   -- c follows a at v
   pub follows-none : (v a c : ℕ) → length at ≤ v + 1 → false ≡ follows (held at ents) v a c
   unfolding follows around next
@@ -97,25 +66,9 @@ module _ (at ents : List ℕ) where
   -- ---- the loop over u's list, from b to e
 
   module _ (u b e : ℕ) (h : u + 1 < length at) (eb : b ≡ getD at u 0) (ee : e ≡ getD at (u + 1) 0) (le : b ≤ e) (in-ents : e ≤ length ents) where
-    pub ring-start : allOf (entryRule (held at ents) u) (slice b e ents) ≡ ringRule (held at ents) u
-    unfolding ringRule
-    ring-start = rw (held-part u b e h eb ee) refl
-
     pub triangle-start : allNext (λ v w. follows (held at ents) v w u) (drop (b - b) (around (slice b e ents))) ≡ triangleRule (held at ents) u
     unfolding triangleRule
     triangle-start = rw (held-part u b e h eb ee) (around-start ents b e le in-ents (allNext (λ v w. follows (held at ents) v w u)))
-
-  module _ (u e i : ℕ) (k : i < e) (in-ents : e ≤ length ents) (so : allOf (entryRule (held at ents) u) (slice i e ents) ≡ ringRule (held at ents) u)
-      (r : Bool) (er : r ≡ not (entryRule (held at ents) u (getD ents i 0))) where
-    pub ring-fault : r ≡ true → not (ringRule (held at ents) u) ≡ true
-    ring-fault t = rw (← so, all-step ents i e k in-ents (entryRule (held at ents) u), not-true (entryRule (held at ents) u (getD ents i 0)) (sym er ∙ t)) refl
-
-    pub ring-pass : r ≡ false → allOf (entryRule (held at ents) u) (slice (i + 1) e ents) ≡ ringRule (held at ents) u
-    ring-pass t = rw (← so, all-step ents i e k in-ents (entryRule (held at ents) u), not-false (entryRule (held at ents) u (getD ents i 0)) (sym er ∙ t)) refl
-
-  pub ring-done : (u e i : ℕ) → i ≡ e → allOf (entryRule (held at ents) u) (slice i e ents) ≡ ringRule (held at ents) u
-      → not (ringRule (held at ents) u) ≡ false
-  ring-done u e i q so = rw (← so, q, all-end ents e (entryRule (held at ents) u)) refl
 
   module _ (u b e i : ℕ) (j : b ≤ i) (k : i < e) (in-ents : e ≤ length ents)
       (so : allNext (λ v w. follows (held at ents) v w u) (drop (i - b) (around (slice b e ents))) ≡ triangleRule (held at ents) u) (r : Bool)

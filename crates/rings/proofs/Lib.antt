@@ -1,6 +1,7 @@
 pub mod OnBoards
 pub mod Turns
 pub mod Held
+pub mod Faults
 pub mod Around
 pub mod Places
 pub mod Says

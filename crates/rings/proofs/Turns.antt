@@ -9,7 +9,7 @@ use lib.Dec.{eqb}
 use borrow.Author.Tests.{eq-eqb, ne-eqb}
 use lib.ListN.{length, getD, take, drop, length-append, List·getD-append}
 use lib.Seq.{slice, slice-cons, slice-empty, length-slice, drop-cons, drop-append-seam, getD-at, getD-take, getD-drop}
-use Rattle.words.specs.Lists.{mem, count, allOf}
+use Rattle.words.specs.Lists.{mem, count}
 use Rattle.rings.specs.Rings.{around, next, allNext}
 
 -- ---- the entries from j to e
@@ -26,10 +26,6 @@ module _ (l : List ℕ) (j e : ℕ) (h : j < e) (k : e ≤ length l) where
   unfolding count
   count-step p = ap (count p) part-step
 
-  pub all-step : (p : ℕ → Bool) → allOf p (slice j e l) ≡ (p (getD l j 0) && allOf p (slice (j + 1) e l))
-  unfolding allOf
-  all-step p = ap (allOf p) part-step
-
 pub mem-end : (l : List ℕ) (e a : ℕ) → mem (slice e e l) a ≡ false
 unfolding mem
 mem-end l e a = ap (λ (m : List ℕ). mem m a) (slice-empty e l)
@@ -37,10 +33,6 @@ mem-end l e a = ap (λ (m : List ℕ). mem m a) (slice-empty e l)
 pub count-end : (l : List ℕ) (e : ℕ) (p : ℕ → Bool) → count p (slice e e l) ≡ 0
 unfolding count
 count-end l e p = ap (count p) (slice-empty e l)
-
-pub all-end : (l : List ℕ) (e : ℕ) (p : ℕ → Bool) → allOf p (slice e e l) ≡ true
-unfolding allOf
-all-end l e p = ap (allOf p) (slice-empty e l)
 
 -- entry i of a part
 pub part-at : (l : List ℕ) (b e i : ℕ) → b ≤ i → i < e → e ≤ length l → getD (slice b e l) (i - b) 0 ≡ getD l i 0

@@ -1,37 +1,28 @@
 // Rings: a post's neighbours counter-clockwise, read around; ring rule, triangle rule and outer triangle (steps 9 to 11). All entries stand one
 // after the other in `ents`; the list of u goes from at[u] to at[u + 1].
 ghost use mathlib.Core.Path.{_≡_};
-ghost use mathlib.Core.Bool.{true, false, not, cond, _&&_};
+ghost use mathlib.Core.Bool.{true, false, not, _&&_};
 ghost use Prim.Native.Nat.{_+_, _-_, _≤_, _<_};
 ghost use lib.Dec.{eqb};
 ghost use lib.ListN.{length, getD, take};
 ghost use lib.Seq.{slice};
 ghost use Rattle.words.specs.First.{first};
-ghost use Rattle.words.specs.Lists.{mem, count};
+ghost use Rattle.words.specs.Lists.{mem};
 ghost use Rattle.words.specs.Numbers.{sumOf};
 ghost use Rattle.block.specs.Layout.{limit, entries};
 ghost use Rattle.block.specs.Block.{degrees, lists, Headed};
-ghost use Rattle.rings.specs.Rings.{around, next, entryRule, ringRule, follows, triangleRule, outerRule};
+ghost use Rattle.rings.specs.Rings.{around, next, follows, triangleRule, outerRule};
+ghost use Rattle.rings.specs.Faults.{faultAt, faultOf};
 ghost use Rattle.rings.specs.Held.{held, Cuts};
 
-fn one_if_same(a: u16, b: u16) -> usize
-    ensures { λ r. ⌜ (r ≡ cond (eqb a b) 1 0) × (r ≤ 1) ⌝ }
-{
-    if a == b { 1 } else { 0 }
-}
-
-// How often a stands among the entries from i to e.
-fn times(ents: &[u16], i: usize, e: usize, a: u16) -> usize
-    requires { ⌜ (i ≤ e) × (e ≤ length (now ents)) ⌝ }
-    ensures { λ r. ⌜ r ≡ count (eqb a) (slice i e (now (ents .entry))) ⌝ }
-{
-    let mut c = 0;
-    let mut j = i;
-    while j < e {
-        c += one_if_same(a, ents[j]);
-        j += 1;
-    }
-    c
+// What is at fault with the lists: nothing; or the first bad entry in the list of this name, the lowest with one: it is no post's name, is the post
+// itself, repeats an earlier entry, or is not returned by the other post.
+pub enum ListFault {
+    Sound,
+    High(u16),
+    Itself(u16),
+    Repeated(u16),
+    Unreturned(u16),
 }
 
 // a stands among the entries from i to e.
@@ -49,46 +40,49 @@ pub fn holds(ents: &[u16], i: usize, e: usize, a: u16) -> bool
     false
 }
 
-// The entry v of u's list breaks the ring rule.
-fn breaks(ents: &[u16], at: &[u16], u: usize, v: u16) -> bool
-    requires { ⌜ Cuts (now at) (now ents) × (u + 1 < length (now at)) × (length (now at) ≤ limit + 1) ⌝ }
-    ensures { λ r. ⌜ r ≡ not (entryRule (held (now (at .entry)) (now (ents .entry))) u v) ⌝ }
+// What is at fault with the entry at place i of u's list, which begins at b.
+fn fault_at(ents: &[u16], at: &[u16], u: usize, b: usize, i: usize) -> ListFault
+    requires { ⌜ Cuts (now at) (now ents) × (u + 1 < length (now at)) × (length (now at) ≤ limit + 1)
+        × (b ≡ getD (now at) u 0) × (b ≤ i) × (i < getD (now at) (u + 1) 0) ⌝ }
+    ensures { λ r. ⌜ r ≡ faultAt (held (now (at .entry)) (now (ents .entry))) u (i - b) ⌝ }
 {
+    let v = ents[i];
     let w = words::number(v);
+    let name = u as u16;
     if at.len() - 1 <= w {
-        return true;
+        return ListFault::High(name);
     }
     if w == u {
-        return true;
+        return ListFault::Itself(name);
     }
-    if times(ents, words::number(at[u]), words::number(at[u + 1]), v) != 1 {
-        return true;
+    if holds(ents, b, i, v) {
+        return ListFault::Repeated(name);
     }
-    !holds(
-        ents,
-        words::number(at[w]),
-        words::number(at[w + 1]),
-        u as u16,
-    )
+    if holds(ents, words::number(at[w]), words::number(at[w + 1]), name) {
+        return ListFault::Sound;
+    }
+    ListFault::Unreturned(name)
 }
 
-// The lowest name with an entry in its list that breaks G3, or n.
-pub fn first_bad_ring(ents: &[u16], at: &[u16]) -> usize
+// The fault of the first bad entry in the lowest list that breaks G3.
+pub fn first_bad_ring(ents: &[u16], at: &[u16]) -> ListFault
     requires { ⌜ Cuts (now at) (now ents) × (1 ≤ length (now at)) × (length (now at) ≤ limit + 1) ⌝ }
-    ensures { λ r. ⌜ r ≡ first 0 (length (now (at .entry)) - 1) (λ u. not (ringRule (held (now (at .entry)) (now (ents .entry))) u)) ⌝ }
+    ensures { λ r. ⌜ r ≡ faultOf (held (now (at .entry)) (now (ents .entry))) ⌝ }
 {
     let n = at.len() - 1;
     let mut u = 0;
     'names: loop {
         if n <= u {
-            break 'names n;
+            break 'names ListFault::Sound;
         }
+        let b = words::number(at[u]);
         let e = words::number(at[u + 1]);
-        let mut i = words::number(at[u]);
+        let mut i = b;
         while i < e {
-            if breaks(ents, at, u, ents[i]) {
-                break 'names u;
-            }
+            let f = fault_at(ents, at, u, b, i);
+            let ListFault::Sound = f else {
+                break 'names f;
+            };
             i += 1;
         }
         u += 1;

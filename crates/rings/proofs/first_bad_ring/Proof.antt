@@ -1,25 +1,29 @@
+use borrow.Author.Needs.{needs}
 use Rattle.rings.proofs.first_bad_ring.Statement.{statement}
 use Rattle.rings.proofs.first_bad_ring.Tie as tie
 use native.Mathlib.Omega.{arith}
-use Prim.Native.Nat.{_+_, _-_, _≤_}
-use mathlib.Core.Path.{_≡_, refl, sym, _∙_}
+use Prim.Native.Nat.{_-_, _≤_}
+use mathlib.Core.Path.{_≡_, refl, sym, ap, _∙_}
 use mathlib.Core.Bool.{not}
+use mathlib.Core.List.{[], _∷_}
+use mathlib.Core.Logic.{inl, inr}
 use native.Mathlib.Nat.{sub-zero}
+use types.Run.{OneOf}
 use lib.ListN.{length}
-use lib.Seq.{slice}
 use Rattle.words.specs.First.{first}
-use Rattle.words.specs.Lists.{allOf}
 use Rattle.words.proofs.First.{first-here, first-next, first-end}
-use Rattle.rings.specs.Rings.{entryRule, ringRule}
+use Rattle.rings.specs.Rings.{ringRule}
+use Rattle.rings.specs.Faults.{isBad, firstBad, faultAt}
 use Rattle.rings.specs.Held.{held}
-use Rattle.rings.proofs.Held.{part-within, ring-start, ring-fault, ring-pass, ring-done}
-use borrow.Author.Needs.{needs}
+use Rattle.rings.specs.declared.ListFault.the-variants.{Sound}
+use Rattle.rings.proofs.Held.{held-length, part-within}
+use Rattle.rings.proofs.Faults.{search-start, search-found, search-next, search-done, told-found, told-none}
 
 abbrev Inv-loop : tie.InvT-loop
-Inv-loop ents at n u e i₀ i = (i ≤ e) × (allOf (entryRule (held at ents) u) (slice i e ents) ≡ ringRule (held at ents) u)
+Inv-loop ents at n u b e i₀ i = (b ≤ i) × (i ≤ e) × (firstBad (held at ents) u ≡ first (i - b) (e - b - (i - b)) (isBad (held at ents) u))
 
 abbrev μ-loop : tie.MeasureT-loop
-μ-loop ents at n u e i₀ i = e - i
+μ-loop ents at n u b e i₀ i = e - i
 
 abbrev Inv-names : tie.InvT-names
 Inv-names ents at n u₀ u = (u ≤ n) × (first 0 n (λ k. not (ringRule (held at ents) k)) ≡ first u (n - u) (λ k. not (ringRule (held at ents) k)))
@@ -33,9 +37,6 @@ sub-n c = search needs
 names-holds : tie.Need-names-holds Inv-loop μ-loop Inv-names μ-names
 names-holds c = (search needs, rw sub-zero refl)
 
-add-number : tie.Need-add-number Inv-loop μ-loop Inv-names μ-names
-add-number c = search needs
-
 mul-number : tie.Need-mul-number Inv-loop μ-loop Inv-names μ-names
 mul-number c = search needs
 
@@ -44,6 +45,9 @@ shared-slice-read-number c = search needs
 
 number-requires : tie.Need-number-requires Inv-loop μ-loop Inv-names μ-names
 number-requires c κs = search needs
+
+add-number : tie.Need-add-number Inv-loop μ-loop Inv-names μ-names
+add-number c = search needs
 
 mul-number-2 : tie.Need-mul-number-2 Inv-loop μ-loop Inv-names μ-names
 mul-number-2 c = search needs
@@ -60,24 +64,16 @@ loop-holds c =
     let entry = turn .before .before .before in
     let at = entry .args .at .now in
     let ents = entry .args .ents .now in
-    let u = turn .names .u in
-    let b = c .number2 in
-    let e = c .before .before .number in
-    let w = part-within at ents (entry .pre .0) u (b .result) (e .result) (omega arith) (b .ensures .0) (e .ensures .0) in
-    (w .0, ring-start at ents u (b .result) (e .result) (omega arith) (b .ensures .0) (e .ensures .0) (w .0) (w .1))
+    let b = c .before .before .number in
+    let e = c .number2 in
+    let w = part-within at ents (entry .pre .0) _ _ _ (omega arith) (b .ensures .0) (e .ensures .0) in
+    (search needs, w .0, search-start at ents _ _ _ (omega arith) (b .ensures .0) (e .ensures .0) (w .1))
 
-mul-breaks : tie.Need-mul-breaks Inv-loop μ-loop Inv-names μ-names
-mul-breaks c = search needs
+fault-at-requires : tie.Need-fault-at-requires Inv-loop μ-loop Inv-names μ-names
+fault-at-requires c κs = search needs
 
-shared-slice-read-breaks : tie.Need-shared-slice-read-breaks Inv-loop μ-loop Inv-names μ-names
-shared-slice-read-breaks c =
-    let begun = c .before .before .before .before .before in
-    let turn = begun .before .before .before in
-    let C = turn .before .before .before .pre .0 in
-    omega (arith, C .within (turn .names .u + 1) (omega arith), begun .number .ensures)
-
-breaks-requires : tie.Need-breaks-requires Inv-loop μ-loop Inv-names μ-names
-breaks-requires c κs = search needs
+enum-told : tie.Need-enum-told Inv-loop μ-loop Inv-names μ-names
+enum-told c = search needs
 
 add-i : tie.Need-add-i Inv-loop μ-loop Inv-names μ-names
 add-i c = search needs
@@ -88,16 +84,17 @@ loop-less c = search needs
 loop-again : tie.Need-loop-again Inv-loop μ-loop Inv-names μ-names
 loop-again c =
     let inner = c .before .before .before .before in
-    let turn = inner .before .before .before .before .before .before in
+    let read = inner .before in
+    let turn = read .before .before .before .before .before in
     let entry = turn .before .before .before in
-    let at = entry .args .at .now in
-    let ents = entry .args .ents .now in
-    let u = turn .names .u in
-    let e = inner .before .before .before .number in
+    let b = read .before .before .number in
+    let e = read .number2 in
+    let w = part-within _ _ (entry .pre .0) _ _ _ (omega arith) (b .ensures .0) (e .ensures .0) in
     let v = inner .loop in
-    let in-ents : e .result ≤ length ents = omega (arith, entry .pre .0 .within (u + 1) (omega arith), e .ensures) in
-    let breaks = c .before .breaks in
-    (search needs, ring-pass at ents u (e .result) (v .i) (omega arith) in-ents (v .inv .1) (breaks .result) (breaks .ensures) (c .if2 .left))
+    let fault = c .before .before .fault-at in
+    let sound = sym (fault .ensures) ∙ c .enum-told .given .1 in
+    let left = search-next _ _ _ _ _ (omega arith) (b .ensures .0) (e .ensures .0) (w .1) (v .i) (v .inv .0) (v .inv .2) (omega arith) sound in
+    (search needs, search needs, left)
 
 add-u : tie.Need-add-u Inv-loop μ-loop Inv-names μ-names
 add-u c = search needs
@@ -107,37 +104,56 @@ names-less c = search needs
 
 names-again : tie.Need-names-again Inv-loop μ-loop Inv-names μ-names
 names-again c =
-    let turn = c .before .before .before .before .before .before .before in
+    let v = c .before .loop in
+    let read = c .before .before in
+    let turn = read .before .before .before .before .before in
     let entry = turn .before .before .before in
     let at = entry .args .at .now in
-    let ents = entry .args .ents .now in
-    let v = turn .names in
-    let e = c .before .before .before .before .number .result in
-    let loop = c .before .loop in
-    let done = ring-done at ents (v .u) e (loop .i) (omega arith) (loop .inv .1) in
-    (search needs, v .inv .1 ∙ first-next _ (v .u) (length at - 1) (omega arith) done)
+    let b = read .before .before .number in
+    let e = read .number2 in
+    let w = part-within at _ (entry .pre .0) _ _ _ (omega arith) (b .ensures .0) (e .ensures .0) in
+    let done = search-done at _ _ _ _ (omega arith) (b .ensures .0) (e .ensures .0) (w .1) (v .i) (v .inv .0) (v .inv .2) (omega arith) in
+    (search needs, turn .names .inv .1 ∙ first-next _ (turn .names .u) (length at - 1) (omega arith) done)
 
 returns : tie.Need-returns Inv-loop μ-loop Inv-names μ-names
 returns c =
     let v = c .before .names in
-    let n = length (c .before .before .before .before .args .at .now) - 1 in
-    let q : n ≡ v .u = omega arith in
-    sym (v .inv .1 ∙ first-end _ (v .u) n (omega arith) ∙ sym q)
+    let entry = c .before .before .before .before in
+    let at = entry .args .at .now in
+    let ents = entry .args .ents .now in
+    let many = held-length at ents in
+    let lowest = v .inv .1 ∙ first-end _ (v .u) (length at - 1) (omega arith) in
+    told-none (held at ents) (v .u) (rw many lowest) (omega (arith, many))
+
+-- the else of `let ListFault::Sound = f`: f is one of the enum's cases 1 to 4, and Sound is its case 0
+faulty : OneOf (1 ∷ 2 ∷ 3 ∷ 4 ∷ []) 0 → ⊥
+faulty (inl e) = omega arith
+faulty (inr (inl e)) = omega arith
+faulty (inr (inr (inl e))) = omega arith
+faulty (inr (inr (inr e))) = omega arith
 
 returns-2 : tie.Need-returns-2 Inv-loop μ-loop Inv-names μ-names
 returns-2 c =
-    let inner = c .before .before .before .before in
-    let turn = inner .before .before .before .before .before .before in
+    let inner = c .before .before .before in
+    let read = inner .before in
+    let turn = read .before .before .before .before .before in
     let entry = turn .before .before .before in
     let at = entry .args .at .now in
     let ents = entry .args .ents .now in
-    let v = turn .names in
-    let e = inner .before .before .before .number in
-    let i = inner .loop in
-    let in-ents : e .result ≤ length ents = omega (arith, entry .pre .0 .within (v .u + 1) (omega arith), e .ensures) in
-    let breaks = c .before .breaks in
-    let fault = ring-fault at ents (v .u) (e .result) (i .i) (omega arith) in-ents (i .inv .1) (breaks .result) (breaks .ensures) (c .if2 .taken) in
-    sym (v .inv .1 ∙ first-here _ (v .u) (length at - 1) (omega arith) fault)
+    let b = read .before .before .number in
+    let e = read .number2 in
+    let w = part-within at ents (entry .pre .0) _ _ _ (omega arith) (b .ensures .0) (e .ensures .0) in
+    let v = inner .loop in
+    let many = held-length at ents in
+    let fault = c .before .fault-at in
+    let bad : fault .result ≡ Sound → ⊥ = λ q. faulty (rw q at (c .match .keys2)) in
+    let found =
+    search-found at ents _ _ _ (omega arith) (b .ensures .0) (e .ensures .0) (w .1) (v .i) (v .inv .0) (v .inv .2) (omega arith)
+    (λ q. bad (fault .ensures ∙ q)) in
+    let u = turn .names .u in
+    let lowest = turn .names .inv .1 ∙ first-here _ u (length at - 1) (omega arith) (found .1) in
+    let told = told-found (held at ents) u (rw many lowest) (omega (arith, many)) in
+    fault .ensures ∙ ap (faultAt (held at ents) u) (sym (found .0)) ∙ told
 
 pub first-bad-ring-spec : {M : Type 1} → statement M
 first-bad-ring-spec =
@@ -149,17 +165,16 @@ first-bad-ring-spec =
     μ-names
     sub-n
     names-holds
-    add-number
     mul-number
     shared-slice-read-number
     number-requires
+    add-number
     mul-number-2
     shared-slice-read-number-2
     number-requires-2
     loop-holds
-    mul-breaks
-    shared-slice-read-breaks
-    breaks-requires
+    fault-at-requires
+    enum-told
     add-i
     loop-less
     loop-again
