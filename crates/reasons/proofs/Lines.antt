@@ -1,6 +1,6 @@
 -- The lines of a text, letter by letter.
 use Prim.Native.Nat.{ℕ, _+_}
-use mathlib.Core.Path.{_≡_, refl, sym, ap, _∙_}
+use mathlib.Core.Path.{_≡_, sym, ap, _∙_}
 use mathlib.Core.List.{List, [], _∷_}
 use Rattle.text.specs.Letters.{numbered}
 use Rattle.text.specs.Filling.{Filling, write}

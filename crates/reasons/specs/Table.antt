@@ -1,6 +1,6 @@
 -- The words as the code holds them: a text with a line for each number. Only inner contracts cite it.
 use Prim.Native.Nat.{ℕ, _+_}
-use mathlib.Core.Bool.{Bool, cond, not, _&&_}
+use mathlib.Core.Bool.{cond, not, _&&_}
 use mathlib.Core.List.{List, [], _∷_, _++_, flatMap}
 use mathlib.Core.Option.{Option, none, some}
 use lib.Dec.{eqb}

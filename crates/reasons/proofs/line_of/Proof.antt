@@ -1,7 +1,6 @@
 use Rattle.reasons.proofs.line_of.Statement.{statement}
 use Rattle.reasons.proofs.line_of.Tie as tie
 use mathlib.Core.Path.{refl}
-use native.Mathlib.Omega.{arith}
 use borrow.Author.Tests.{eq-eqb, ne-eqb, le-leb, lt-leb}
 
 returns : tie.Need-returns
