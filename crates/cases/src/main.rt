@@ -1,6 +1,7 @@
-// The cases E1 to E11 of docs/RULES.md, each run and printed; and what the bench program prints for T, for the autumn block and for an
+// The cases E1 to E16 of docs/RULES.md, each run and printed; and what the bench program prints for T, for the autumn block and for an
 // empty input.
 mod boards;
+mod lists;
 
 ghost use mathlib.Core.Path.{_≡_};
 ghost use lib.ListN.{length};
@@ -124,6 +125,27 @@ fn heads() {
     check(&e);
 }
 
+fn list_faults() {
+    let high = lists::high();
+    show::print(b"12. D with 0 1 7 for the list of 2: ");
+    check(&high);
+    let itself = lists::itself();
+    show::print(b"13. D with 0 1 2 for the list of 2: ");
+    check(&itself);
+    let repeated = lists::repeated();
+    show::print(b"14. D with 0 1 1 for the list of 2: ");
+    check(&repeated);
+    let unreturned = lists::unreturned();
+    show::print(b"15. D with 0 1 4 for the list of 2: ");
+    check(&unreturned);
+    let first = lists::high_first();
+    show::print(b"16. D with 1 7 1 4 for the list of 0: ");
+    check(&first);
+    let second = lists::repeated_first();
+    show::print(b"16. D with 1 1 7 4 for the list of 0: ");
+    check(&second);
+}
+
 fn programs() {
     let t = boards::board_t();
     let d = boards::autumn();
@@ -142,5 +164,6 @@ fn main() {
     records();
     sums();
     heads();
+    list_faults();
     programs();
 }

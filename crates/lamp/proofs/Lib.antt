@@ -7,5 +7,6 @@ pub mod BoardRows
 pub mod Accepts
 pub mod Retired
 pub mod Finer
+pub mod FirstWrong
 pub mod ReadBack
 pub mod Places

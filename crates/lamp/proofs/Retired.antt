@@ -27,7 +27,7 @@ use Rattle.lamp.proofs.Given.{given-end, given-skip, given-stop, given-
 use Rattle.lamp.proofs.Accepts.{lists-count, none-boarded, none-position}
 
 -- ---- a reply's number is that of a row
-none-given : {A : Type 0} (answer : List ℕ → A) (s : List ℕ) (rows : List Row) (number place : ℕ) → NoneIs number rows
+pub none-given : {A : Type 0} (answer : List ℕ → A) (s : List ℕ) (rows : List Row) (number place : ℕ) → NoneIs number rows
     → given rows s answer ≢ refused number place
 none-given answer s [] number place h e = not-both (sym e ∙ given-end s answer)
 none-given answer s (r ∷ rows) number place h e = go (r .when s) refl (none-given answer s rows number place (h .1))
@@ -36,7 +36,7 @@ none-given answer s (r ∷ rows) number place h e = go (r .when s) refl (none-gi
     go true w k = let f = sym (given-stop s answer r rows w) ∙ e in let q : r .number ≡ number = cc in h .0 q
     go false w k = k (sym (given-skip s answer r rows w) ∙ e)
 
-is-both : (number : ℕ) (a b : List Row) → NoneIs number a → NoneIs number b → NoneIs number (a ++ b)
+pub is-both : (number : ℕ) (a b : List Row) → NoneIs number a → NoneIs number b → NoneIs number (a ++ b)
 is-both number [] b h k = k
 is-both number (r ∷ a) b h k = (h .0, is-both number a b (h .1) k)
 

@@ -63,10 +63,11 @@ module _ (s : List ℕ) where
   unfolding some
   no-name t = ltb-false u (0 + posts s) t
 
+  pub lowest-broken : someName ringFault s ≡ true → ringRule G u ≡ false
+  lowest-broken t = not-true (ringRule G u) (first-is (ringFault s) (posts s) 0 .there (lowest-name t))
+
   lowest-bad : someName ringFault s ≡ true → isBad G u i ≡ true
-  lowest-bad t =
-      let there = first-is (ringFault s) (posts s) 0 .there (lowest-name t) in
-      broken-bad G u (not-true (ringRule G u) there) .1
+  lowest-bad t = broken-bad G u (lowest-broken t) .1
 
   one-of : (x a b c d : Bool) → (x ≡ true → a || (b || (c || d)) ≡ true) → (x && a) || ((x && b) || ((x && c) || ((x && d) || false))) ≡ x
   one-of false a b c d f = refl

@@ -1,8 +1,8 @@
--- The cases with a star of docs/RULES.md (E1 to E9 and E11), as one table.
+-- The cases with a star of docs/RULES.md (E1 to E9, E11 and E12 to E16), as one table.
 use Prim.Native.Nat.{ℕ, _/_, _%_}
 use mathlib.Core.Path.{_≡_}
 use mathlib.Core.List.{List, [], _∷_, _++_, map, flatMap, flatten}
-use lib.ListN.{length, take}
+use lib.ListN.{length, take, set}
 use Rattle.placing.specs.declared.Record.{Record}
 use Rattle.placing.specs.declared.Standing.the-variants.{Waiting, OnContour, Covered}
 use Rattle.block.specs.Block.{mark}
@@ -24,6 +24,10 @@ T sum = blockOf orderT listsT sum
 -- Board D, with an order and its sum
 unfoldable pub D : List ℕ → ℕ → List ℕ
 D order sum = blockOf order listsD sum
+
+-- Board D with another list for post u, and its sum
+unfoldable pub DList : ℕ → List ℕ → ℕ → List ℕ
+DList u l sum = blockOf orderD (set listsD u l) sum
 
 -- a row: a call, and what it must give. Of a sheet call the buffer before and after
 pub data Case : Type 0 where
@@ -68,4 +72,12 @@ starred =
     ∷ check (take 32 (T 236)) (refused 5 0)
     -- 11: D with a name twice in its order, and a corrected sum
     ∷ check (D (0 ∷ 1 ∷ 2 ∷ 2 ∷ 4 ∷ []) 284) (refused 7 4)
+    -- 12, 13, 14, 15: D with an entry in the list of post 2 that no post has for its name, that is 2, that repeats, that is not returned
+    ∷ check (DList 2 (0 ∷ 1 ∷ 7 ∷ []) 289) (refused 9 2)
+    ∷ check (DList 2 (0 ∷ 1 ∷ 2 ∷ []) 284) (refused 18 2)
+    ∷ check (DList 2 (0 ∷ 1 ∷ 1 ∷ []) 283) (refused 19 2)
+    ∷ check (DList 2 (0 ∷ 1 ∷ 4 ∷ []) 286) (refused 20 2)
+    -- 16: two faults in one list, either one first
+    ∷ check (DList 0 (1 ∷ 7 ∷ 1 ∷ 4 ∷ []) 288) (refused 9 0)
+    ∷ check (DList 0 (1 ∷ 1 ∷ 7 ∷ 4 ∷ []) 288) (refused 19 0)
     ∷ []
