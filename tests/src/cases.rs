@@ -1,4 +1,5 @@
-//! The paper's numbered cases 1 to 11, each compared and asserted as printed.
+//! The numbered cases E1 to E15 of docs/RULES.md, each compared and asserted as it
+//! stands there.
 
 use crate::board::{d, mend_sum, t, Board};
 use crate::compare::Tester;
@@ -25,6 +26,7 @@ pub fn run(tester: &mut Tester) {
     boards(tester);
     sheets(tester);
     refused_blocks(tester);
+    refused_lists(tester);
     stages_and_rooms(tester);
     posts(tester);
 }
@@ -70,6 +72,49 @@ fn refused_blocks(tester: &mut Tester) {
     let repeated = d_with_order([0, 1, 2, 2, 4]).block();
     assert_eq!(sum_of(&repeated), 284);
     assert_eq!(tester.check(&repeated), refused(7, 4));
+}
+
+/// D with another list of post 2; what its sum then is, and its refusal.
+struct BadList {
+    file: &'static [u8],
+    list: [u16; 3],
+    sum: u16,
+    number: u16,
+}
+
+macro_rules! bad_list {
+    ($name:literal, $list:expr, $sum:literal, $number:literal) => {
+        BadList {
+            file: include_bytes!(concat!("../../boards/", $name, ".pgb")),
+            list: $list,
+            sum: $sum,
+            number: $number,
+        }
+    };
+}
+
+const BAD_LISTS: [BadList; 4] = [
+    bad_list!("high", [0, 1, 7], 289, 9),
+    bad_list!("itself", [0, 1, 2], 284, 18),
+    bad_list!("repeated", [0, 1, 1], 283, 19),
+    bad_list!("unreturned", [0, 1, 4], 286, 20),
+];
+
+/// The blocks of cases 12 to 15, as they lie in boards/.
+pub fn bad_lists() -> impl Iterator<Item = &'static [u8]> {
+    BAD_LISTS.iter().map(|bad| bad.file)
+}
+
+/// Cases 12 to 15.
+fn refused_lists(tester: &mut Tester) {
+    for bad in &BAD_LISTS {
+        let mut board = d();
+        board.rings[2] = bad.list.to_vec();
+        let block = board.block();
+        assert_eq!(sum_of(&block), bad.sum);
+        assert_eq!(block, bad.file);
+        assert_eq!(tester.check(&block), refused(bad.number, 2));
+    }
 }
 
 /// Case 6.

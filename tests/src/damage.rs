@@ -2,9 +2,11 @@
 
 mod draft;
 mod each;
+mod lists;
 mod pieces;
 
 pub use each::one_for_each;
+pub use lists::{Plan, Slip};
 pub use pieces::{order_of_pieces, pieces};
 
 use crate::board::{mend_sum, Board};
@@ -168,6 +170,13 @@ pub const KINDS: &[Damage] = damages![
         if !strangers.is_empty() {
             draft.put(draft.entry_at(name, i), rng.pick(&strangers));
         }
+    },
+    "bad entries in one list": |draft, rng| {
+        let name = rng.below(draft.n());
+        (0..rng.between(2, 4)).for_each(|_| draft.put_bad_entry(name, rng))
+    },
+    "bad entries in any lists": |draft, rng| {
+        (0..rng.between(2, 6)).for_each(|_| draft.put_bad_entry(rng.below(draft.n()), rng))
     },
     "a wire laid elsewhere, at both ends": |draft, rng| {
         let mut rings = draft.board.rings.clone();

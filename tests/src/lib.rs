@@ -24,3 +24,4 @@ pub mod runs;
 pub mod tally;
 pub mod text;
 pub mod trial;
+pub mod words;

@@ -205,13 +205,17 @@ impl Lists {
         for u in 0..n {
             for &v in self.ring(u) {
                 let v = v as usize;
-                if v >= n || v == u || last_seen_at[v] == u as u16 {
+                if v >= n {
                     return refuse(9, u);
+                } else if v == u {
+                    return refuse(18, u);
+                } else if last_seen_at[v] == u as u16 {
+                    return refuse(19, u);
                 }
                 last_seen_at[v] = u as u16;
                 match self.ring(v).iter().position(|&entry| entry == u as u16) {
                     Some(twin) => twins.push(twin as u16),
-                    None => return refuse(9, u),
+                    None => return refuse(20, u),
                 }
             }
         }

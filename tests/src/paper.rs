@@ -6,7 +6,7 @@
 mod drawing;
 mod print;
 
-pub use print::{number, refused_text, sheet_text, usage_text};
+pub use print::{number, refused_text, sheet_text, usage_text, why_text};
 
 use crate::layout::{FEWEST, MOST};
 use crate::reply::{Record, Refusal};
@@ -175,19 +175,36 @@ impl Board {
         self.order[position - 1]
     }
 
-    /// Step 9 (G3): an entry is a name and another than the post's own, stands
-    /// in the list a single time, and is returned.
+    /// Step 9 (G3): the lists in the order of names, the entries of each from its
+    /// first on. The first bad entry decides.
     fn rings(&self) -> Result<(), Refusal> {
         for u in 0..self.n {
-            let list = &self.lists[u];
-            for &v in list {
-                let times = list.iter().filter(|&&entry| entry == v).count();
-                if v >= self.n || v == u || times != 1 || !self.lists[v].contains(&u) {
-                    return refuse(9, u);
+            for i in 0..self.lists[u].len() {
+                if let Some(number) = self.entry_fault(u, i) {
+                    return refuse(number, u);
                 }
             }
         }
         Ok(())
+    }
+
+    /// What is wrong with entry i of u's list: 9, no post has that name; 18, it is
+    /// u; 19, it stands in the list before; 20, its own list does not have u.
+    fn entry_fault(&self, u: usize, i: usize) -> Option<u16> {
+        let v = self.lists[u][i];
+        if v >= self.n {
+            return Some(9);
+        }
+        if v == u {
+            return Some(18);
+        }
+        if self.lists[u][..i].contains(&v) {
+            return Some(19);
+        }
+        if !self.lists[v].contains(&u) {
+            return Some(20);
+        }
+        None
     }
 
     /// Step 10 (G4): of two entries of u side by side, v and then w, the ring of v
@@ -270,3 +287,6 @@ fn run_starts(earlier: &[bool]) -> Vec<usize> {
     let starts = (0..earlier.len()).filter(|&i| earlier[i] && !before(i));
     starts.collect()
 }
+
+#[cfg(test)]
+mod tests;

@@ -1,5 +1,6 @@
 //! The parts of the test program.
 
+mod lists;
 mod printed;
 mod right;
 mod wrong;
@@ -25,13 +26,14 @@ macro_rules! parts {
 
 /// All parts. The longest come first, so that two processes end at about the same time.
 pub const PARTS: &[Part] = parts![
-    "cases", "the paper's cases 1 to 11": |trial| cases::run(&mut trial.tester);
-    "programs", "what the programs sheet and stage print": printed::programs;
+    "cases", "the cases E1 to E15 of docs/RULES.md": |trial| cases::run(&mut trial.tester);
+    "programs", "what the programs sheet, stage and why print": printed::programs;
     "large", "random boards up to the most posts there can be": right::large_boards;
     "small", "every board with every order up to 8 posts": right::every_small_board;
     "orders", "every order of every board up to 7 posts": right::every_order_of_small_boards;
     "middling", "random boards up to 60 posts, every stage": right::middling_boards;
     "damage", "damaged blocks": wrong::damaged_blocks;
+    "lists", "lists damaged on purpose, on boards of every kind": lists::damaged_lists;
     "bytes", "every byte of T and D changed to every value": wrong::every_byte_changed;
     "pieces", "boards in pieces": wrong::boards_in_pieces;
     "chance", "bytes by chance": wrong::chance_bytes;

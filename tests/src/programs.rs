@@ -1,4 +1,4 @@
-//! The programs `sheet` and `stage`, run as processes with a block as their
+//! The programs `sheet`, `stage` and `why`, run as processes with a block as their
 //! input: every byte that they print is compared with what the rules say.
 
 mod stand_in;
@@ -8,6 +8,7 @@ pub use stand_in::stand_in;
 use crate::compare::{fails, Tester};
 use crate::paper;
 use crate::refusals::Service;
+use crate::reply::Refusal;
 use std::env;
 use std::ffi::{OsStr, OsString};
 use std::fmt::{self, Display};
@@ -24,6 +25,8 @@ pub enum Call<'a> {
     Sheet,
     /// With the word that says the stage, or without.
     Stage(Option<&'a [u8]>),
+    /// With a word, at which it does not look, or without.
+    Why(Option<&'a [u8]>),
 }
 
 impl Call<'_> {
@@ -31,6 +34,7 @@ impl Call<'_> {
         match self {
             Call::Sheet => "sheet",
             Call::Stage(_) => "stage",
+            Call::Why(_) => "why",
         }
     }
 
@@ -38,6 +42,30 @@ impl Call<'_> {
         match self {
             Call::Sheet => Service::SheetProgram,
             Call::Stage(_) => Service::StageProgram,
+            Call::Why(_) => Service::WhyProgram,
+        }
+    }
+
+    fn word(&self) -> Option<&[u8]> {
+        match self {
+            Call::Sheet => None,
+            Call::Stage(word) | Call::Why(word) => *word,
+        }
+    }
+
+    /// What it is to print of a block, and the reply that this tells; a usage line tells none.
+    fn right(self, block: &[u8]) -> (String, Option<Result<(), Refusal>>) {
+        let stage = match self {
+            Call::Why(_) => return (paper::why_text(block), Some(paper::check(block).map(drop))),
+            Call::Sheet => None,
+            Call::Stage(word) => match word.and_then(paper::number) {
+                None => return (paper::usage_text(), None),
+                stage => stage,
+            },
+        };
+        match paper::sheet_text(block, stage) {
+            Ok(text) => (text, Some(Ok(()))),
+            Err(refusal) => (paper::refused_text(refusal), Some(Err(refusal))),
         }
     }
 }
@@ -45,10 +73,10 @@ impl Call<'_> {
 impl Display for Call<'_> {
     fn fmt(&self, f: &mut fmt::Formatter) -> fmt::Result {
         write!(f, "the program {}", self.program())?;
-        match self {
-            Call::Sheet => Ok(()),
-            Call::Stage(None) => write!(f, " without a word"),
-            Call::Stage(Some(word)) => write!(f, " with the word \"{}\"", word.escape_ascii()),
+        match (self, self.word()) {
+            (Call::Stage(_), None) => write!(f, " without a word"),
+            (_, None) => Ok(()),
+            (_, Some(word)) => write!(f, " with the word \"{}\"", word.escape_ascii()),
         }
     }
 }
@@ -90,12 +118,13 @@ impl Programs {
             let own = env::current_exe().map_err(|error| error.to_string())?;
             return Ok(Programs::StandIn(own));
         };
-        for name in ["sheet", "stage"] {
+        for name in ["sheet", "stage", "why"] {
             let path = folder.join(name);
             if !path.is_file() {
                 let path = path.display();
                 return Err(format!(
-                    "there is no program {path}: run 'rt check sheet stage' first, or set PGB_BIN"
+                    "there is no program {path}: run 'rt check sheet stage why' first, or set \
+                     PGB_BIN"
                 ));
             }
         }
@@ -122,9 +151,9 @@ impl Programs {
                 }
             }
         };
-        if let Call::Stage(Some(word)) = call {
+        if let Some(word) = call.word() {
             command.arg(OsStr::from_bytes(word));
-            // a further word, which the program does not look at, beside every second one
+            // a further word, which no program looks at, beside every second one
             if word.len() % 2 == 0 {
                 command.arg("4");
             }
@@ -143,24 +172,16 @@ impl Programs {
             Ok(output) => output,
             Err(error) => fails(&format!("{call}: it cannot be run: {error}"), block),
         };
-        let stage = match call {
-            Call::Sheet => Some(None),
-            Call::Stage(word) => word.and_then(paper::number).map(Some),
-        };
+        let (text, reply) = call.right(block);
         tester.tally.runs += 1;
-        let fault = match stage {
-            Some(stage) => {
-                let reply = paper::sheet_text(block, stage);
-                tester.count(call.service(), reply.as_ref().err().copied());
-                let text = reply.unwrap_or_else(paper::refused_text);
-                difference(&output.stdout, text.as_bytes())
-            }
+        match reply {
+            Some(reply) => tester.count(call.service(), reply.err()),
             None => {
                 tester.tally.calls += 1;
                 tester.tally.usages += 1;
-                difference(&output.stdout, paper::usage_text().as_bytes())
             }
-        };
+        }
+        let fault = difference(&output.stdout, text.as_bytes());
         let status = output.status;
         let ended = (!status.success()).then(|| "it should end with status 0".to_string());
         let silent = output.stderr.is_empty();

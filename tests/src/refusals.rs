@@ -2,7 +2,7 @@
 //! in a whole run, and no other may.
 
 use std::collections::BTreeMap;
-use Service::{Check, Post, Sheet, SheetProgram, StageProgram};
+use Service::{Check, Post, Sheet, SheetProgram, StageProgram, WhyProgram};
 
 /// The services, and the programs that print what they reply.
 #[derive(Clone, Copy, PartialEq, Eq, PartialOrd, Ord, Debug)]
@@ -12,12 +12,13 @@ pub enum Service {
     Post,
     SheetProgram,
     StageProgram,
+    WhyProgram,
 }
 
-pub const SERVICES: [Service; 5] = [Check, Sheet, Post, SheetProgram, StageProgram];
+pub const SERVICES: [Service; 6] = [Check, Sheet, Post, SheetProgram, StageProgram, WhyProgram];
 
 /// The programs among them.
-pub const PROGRAMS: [Service; 2] = [SheetProgram, StageProgram];
+pub const PROGRAMS: [Service; 3] = [SheetProgram, StageProgram, WhyProgram];
 
 impl Service {
     pub fn name(self) -> &'static str {
@@ -27,6 +28,7 @@ impl Service {
             Post => "post",
             SheetProgram => "bin/sheet",
             StageProgram => "bin/stage",
+            WhyProgram => "bin/why",
         }
     }
 }
@@ -34,7 +36,7 @@ impl Service {
 /// A refusal's number, the services that can give it, and why no other can.
 type Line = (u16, &'static [Service], &'static str);
 
-const NO_STAGE: &str = "check is asked for no stage, and bin/sheet prints the last one";
+const NO_STAGE: &str = "check and bin/why are asked for no stage, bin/sheet prints the last one";
 const NO_BUFFER: &str = "check and post are lent no buffer, and the programs' is long enough";
 
 /// The refusals, a line for each number.
@@ -56,7 +58,14 @@ pub const NUMBERS: &[Line] = &[
     (15, &[Sheet, Post, StageProgram], NO_STAGE),
     (16, &[Sheet], NO_BUFFER),
     (17, &[Post], "the others are asked for no name"),
+    (18, &SERVICES, ""),
+    (19, &SERVICES, ""),
+    (20, &SERVICES, ""),
 ];
+
+/// The refusals by an entry of a list, all at one place in the order of trial:
+/// no post's name, the post itself, a repeat, not returned.
+pub const BY_ENTRY: [u16; 4] = [9, 18, 19, 20];
 
 /// The refusals by the order's rule at a position, which steps 1 to 11 come before.
 pub const BY_POSITION: [u16; 2] = [12, 13];
@@ -172,9 +181,14 @@ mod tests {
             (Check, 14),
             (Check, 16),
             (Sheet, 17),
+            (Sheet, 21),
             (Post, 99),
             (SheetProgram, 15),
             (StageProgram, 16),
+            (WhyProgram, 14),
+            (WhyProgram, 15),
+            (WhyProgram, 17),
+            (WhyProgram, 21),
         ] {
             let mut replies = all_that_can_come();
             replies.count(service, Some(number), 2);
@@ -188,6 +202,13 @@ mod tests {
         replies.0.remove(&(Check, 2));
         replies.0.remove(&(StageProgram, 15));
         assert_eq!(replies.never(&PROGRAMS), ["bin/stage never gave 15"]);
+        for number in BY_ENTRY {
+            let mut replies = all_that_can_come();
+            replies.0.remove(&(WhyProgram, number));
+            let never = [format!("bin/why never gave {number}")];
+            assert_eq!(replies.never(&PROGRAMS), never);
+            assert_eq!(replies.faults(true), never);
+        }
         assert_eq!(replies.never(&[SheetProgram]), [""; 0]);
     }
 }

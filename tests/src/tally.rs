@@ -107,8 +107,8 @@ impl Tally {
         }
         self.report_boards();
         println!(
-            "{} runs of the programs sheet and stage: {} print a sheet or a refusal as the rules \
-             say, to the last byte, {} were given no number and say how to call",
+            "{} runs of the programs sheet, stage and why: {} print a sheet, a refusal or what it \
+             means as the rules say, to the last byte, {} were given no number and say how to call",
             self.runs,
             self.runs - self.usages,
             self.usages

@@ -117,12 +117,18 @@ mod tests {
     /// Each block in boards/ stands beside the text that gives it.
     #[test]
     fn the_boards_to_try_have_right_texts() {
-        for name in ["T", "D", "autumn", "forty"] {
-            let path = format!("{}/../boards/{name}", env!("CARGO_MANIFEST_DIR"));
-            let block = fs::read(format!("{path}.pgb")).unwrap();
-            let text = fs::read_to_string(format!("{path}.txt")).unwrap();
-            assert_eq!(text::parse(&text).unwrap().block(), block, "{name}");
-            assert_eq!(text::show(&block).text, text, "{name}");
+        let folder = concat!(env!("CARGO_MANIFEST_DIR"), "/../boards");
+        let files = fs::read_dir(folder).unwrap();
+        let paths = files.map(|file| file.unwrap().path());
+        let blocks: Vec<_> = paths
+            .filter(|path| path.extension().is_some_and(|end| end == "pgb"))
+            .collect();
+        assert!(!blocks.is_empty());
+        for path in blocks {
+            let block = fs::read(&path).unwrap();
+            let text = fs::read_to_string(path.with_extension("txt")).unwrap();
+            assert_eq!(text::parse(&text).unwrap().block(), block, "{path:?}");
+            assert_eq!(text::show(&block).text, text, "{path:?}");
         }
     }
 }

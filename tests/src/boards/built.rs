@@ -74,7 +74,7 @@ fn extend(construction: Construction, n: usize, visit: &mut dyn FnMut(&Board)) {
 }
 
 /// How a random construction chooses the stretch that a new post covers.
-#[derive(Clone, Copy)]
+#[derive(Clone, Copy, Debug)]
 pub enum Habit {
     /// Any stretch.
     Any,

@@ -95,6 +95,22 @@ impl Draft<'_> {
         self.entry_at(name, i)
     }
 
+    /// Write over one entry of a post's list: with no post's name, with the post
+    /// itself, with another entry of the list, or with any post.
+    pub fn put_bad_entry(&mut self, name: usize, rng: &mut Rng) {
+        let (degree, n) = (self.degree(name), self.n());
+        let at = |i| self.entry_at(name, i);
+        let (entry, other) = (at(rng.below(degree)), at(rng.below(degree)));
+        let bad = match rng.below(5) {
+            0 => n as u16,
+            1 => 65535,
+            2 => name as u16,
+            3 => self.get(other),
+            _ => rng.below(n) as u16,
+        };
+        self.put(entry, bad)
+    }
+
     /// Two different posts.
     pub fn two_posts(&self, rng: &mut Rng) -> (usize, usize) {
         let one = rng.below(self.n());

@@ -33,11 +33,15 @@ pub fn one_for_each() -> Vec<(u16, Vec<u8>)> {
         (6, sum_off),
         (7, d_in_order([0, 1, 2, 2, 4])),
         (8, d_with(layout::degree_at(5, 0), 1)),
-        (9, d_with(layout::entry_at(5, 0), 0)),
+        (9, d_with(layout::entry_at(5, 0), 5)),
         (10, list_turned.block()),
         (11, d_in_order([1, 0, 2, 3, 4])),
         (12, octahedron.block()),
         (13, d_in_order([0, 1, 3, 2, 4])),
+        (18, d_with(layout::entry_at(5, 0), 0)),
+        (19, d_with(layout::entry_at(5, 0), 2)),
+        // post 2 with 0 1 4 as its list: 4 has 0 3 1
+        (20, d_with(layout::entry_at(5, 10), 4)),
     ]
 }
 

@@ -1,7 +1,8 @@
-//! What the programs `sheet` and `stage` print.
+//! What the programs `sheet`, `stage` and `why` print.
 
-use super::{accepted, stage_allowed, Board, Drawing};
+use super::{accepted, check, number_at, stage_allowed, Board, Drawing};
 use crate::reply::Refusal;
+use crate::words::Words;
 
 /// The text of a block's stage: of the one asked for, or of the last.
 pub fn sheet_text(block: &[u8], stage: Option<u128>) -> Result<String, Refusal> {
@@ -32,6 +33,31 @@ pub fn refused_text(refusal: Refusal) -> String {
     format!("refused {} {}\n", refusal.number, refusal.place)
 }
 
+/// The line of `why`: an accepted block's n and how far its sheet goes, or a refusal
+/// and what it means.
+pub fn why_text(block: &[u8]) -> String {
+    match check(block) {
+        Ok(n) => {
+            let (x, y) = (2 * n - 4, n - 2);
+            format!(
+                "accepted {n}: the board has {n} posts, and on its sheet x goes from 0 to {x} and \
+                 y from 0 to {y}\n"
+            )
+        }
+        Err(refusal) => {
+            // a block that is too short for an n gets words that tell none
+            let n = if block.len() < 7 {
+                0
+            } else {
+                number_at(block, 5)
+            };
+            let Refusal { number, place } = refusal;
+            let words = Words::of_readme().of(refusal, n as u16);
+            format!("refused {number} {place}: {words}\n")
+        }
+    }
+}
+
 /// The line of a word that says no number.
 pub fn usage_text() -> String {
     "usage: stage K < block, with K the stage, from 3 to the number of posts\n".into()
@@ -56,7 +82,10 @@ pub fn number(word: &[u8]) -> Option<u128> {
 #[cfg(test)]
 mod tests {
     use super::*;
-    use crate::board::{d, t, Board};
+    use crate::board::{d, mend_sum, t, Board};
+    use crate::boards::{random, KINDS};
+    use crate::layout;
+    use crate::rng::Rng;
 
     fn refused(number: u16, place: u16) -> Result<String, Refusal> {
         Err(Refusal { number, place })
@@ -107,6 +136,68 @@ mod tests {
     fn the_line_of_a_refusal() {
         let (number, place) = (13, 3);
         assert_eq!(refused_text(Refusal { number, place }), "refused 13 3\n");
+    }
+
+    #[test]
+    fn the_line_of_an_accepted_block() {
+        let of_d = "accepted 5: the board has 5 posts, and on its sheet x goes from 0 to 6 and y \
+                    from 0 to 3\n";
+        assert_eq!(why_text(&d().block()), of_d);
+        let of_t = "accepted 3: the board has 3 posts, and on its sheet x goes from 0 to 2 and y \
+                    from 0 to 1\n";
+        assert_eq!(why_text(&t().block()), of_t);
+    }
+
+    /// What the line says of x and y is how far the last sheet goes.
+    #[test]
+    fn the_sheet_goes_as_far_as_the_line_says() {
+        let mut rng = Rng::new(13);
+        for kind in KINDS {
+            for n in [5, 6, 17, 60] {
+                let block = random(kind, n, &mut rng).block();
+                let sheet = sheet_text(&block, None).unwrap();
+                let ends = |column: usize| {
+                    let words = sheet
+                        .lines()
+                        .skip(1)
+                        .map(|line| line.split(' ').nth(column));
+                    let numbers: Vec<usize> =
+                        words.map(|word| word.unwrap().parse().unwrap()).collect();
+                    (
+                        *numbers.iter().min().unwrap(),
+                        *numbers.iter().max().unwrap(),
+                    )
+                };
+                let ((left, right), (bottom, top)) = (ends(2), ends(3));
+                let said = format!("x goes from {left} to {right} and y from {bottom} to {top}\n");
+                assert!(why_text(&block).ends_with(&said), "{kind:?} {n}");
+            }
+        }
+    }
+
+    #[test]
+    fn the_line_of_a_refused_block() {
+        let order = vec![0, 1, 3, 2, 4];
+        let autumn = "refused 13 3: at position 3 of the order: the post's wires to posts fitted \
+                      before it do not lie side by side; two posts may stand in each other's place\n";
+        assert_eq!(why_text(&Board { order, ..d() }.block()), autumn);
+        let short = "refused 1 0: the block is cut short: it has fewer than 7 bytes\n";
+        for length in 0..7 {
+            assert_eq!(why_text(&d().block()[..length]), short);
+        }
+        let of_all = |n: usize| {
+            format!("refused 8 {n}: the degrees of all {n} posts together are not 6 times {n} less 12\n")
+        };
+        let mut block = d().block();
+        layout::put(&mut block, layout::degree_at(5, 4), 4);
+        mend_sum(&mut block);
+        assert_eq!(why_text(&block), of_all(5));
+        let one =
+            "refused 8 4: the degree of post 4 is below 2, or so high that there are not that \
+                   many other posts\n";
+        layout::put(&mut block, layout::degree_at(5, 4), 5);
+        mend_sum(&mut block);
+        assert_eq!(why_text(&block), one);
     }
 
     #[test]

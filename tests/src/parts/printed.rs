@@ -1,13 +1,17 @@
-//! What the programs `sheet` and `stage` print.
+//! What the programs `sheet`, `stage` and `why` print.
+
+mod numbers;
 
 use crate::board::{d, mend_sum, t, Board};
 use crate::boards::{self, random, Kind, HABITS, KINDS};
-use crate::damage;
+use crate::cases;
+use crate::damage::{self, Plan};
 use crate::layout::{self, MOST, N_AT, VERSION_AT};
 use crate::programs::{Call, Programs};
 use crate::refusals::PROGRAMS;
 use crate::text;
 use crate::trial::Trial;
+use numbers::{no_numbers, numbers};
 use std::process::exit;
 
 const AUTUMN: &[u8] = include_bytes!("../../../boards/autumn.pgb");
@@ -31,6 +35,8 @@ pub fn programs(trial: &mut Trial) {
     printing.cut_short();
     printing.too_long();
     printing.each_refusal();
+    printing.words();
+    printing.degrees();
     printing.damaged();
     printing.stages();
     printing.no_numbers();
@@ -38,9 +44,11 @@ pub fn programs(trial: &mut Trial) {
 }
 
 impl Printing<'_> {
-    fn sheet(&mut self, block: &[u8]) {
-        let tester = &mut self.trial.tester;
-        self.programs.compare(tester, Call::Sheet, block);
+    /// The programs that are asked for no stage.
+    fn whole(&mut self, block: &[u8]) {
+        for call in [Call::Sheet, Call::Why(None)] {
+            self.programs.compare(&mut self.trial.tester, call, block);
+        }
     }
 
     fn stage(&mut self, word: impl AsRef<[u8]>, block: &[u8]) {
@@ -56,16 +64,16 @@ impl Printing<'_> {
     /// byte more, and the largest of each kind, at two more stages by lot.
     fn last_stages(&mut self) {
         for block in [&t().block(), &d().block(), AUTUMN, FORTY] {
-            self.sheet(block);
+            self.whole(block);
         }
         for n in [6, 9, 10, 11, 99, 100, 101, 255, 256, 257, MOST - 1] {
             let kind = self.trial.rng.pick(&KINDS);
             let block = self.random(kind, n);
-            self.sheet(&block);
+            self.whole(&block);
         }
         for kind in KINDS {
             let block = self.random(kind, MOST);
-            self.sheet(&block);
+            self.whole(&block);
             for _ in 0..2 {
                 let stage = self.trial.rng.between(3, MOST - 1);
                 self.stage(stage.to_string(), &block);
@@ -73,7 +81,7 @@ impl Printing<'_> {
         }
         for habit in HABITS {
             let block = boards::constructed(MOST, habit, &mut self.trial.rng).block();
-            self.sheet(&block);
+            self.whole(&block);
         }
     }
 
@@ -90,7 +98,7 @@ impl Printing<'_> {
             (&long, 4096),
         ];
         for (block, piece) in inputs {
-            for call in [Call::Sheet, Call::Stage(Some(b"4"))] {
+            for call in [Call::Sheet, Call::Stage(Some(b"4")), Call::Why(None)] {
                 let tester = &mut self.trial.tester;
                 self.programs.compare_in_pieces(tester, call, block, piece);
             }
@@ -99,13 +107,13 @@ impl Printing<'_> {
 
     fn cut_short(&mut self) {
         for length in [0, 1, 3, 5, 6, 7, 8, 31, 32] {
-            self.sheet(&t().block()[..length]);
+            self.whole(&t().block()[..length]);
         }
         let large = self.random(Kind::Stacked, MOST);
         for block in [&d().block(), FORTY, &large] {
             let by_lot = self.trial.rng.between(layout::HEADER, block.len() - 3);
             for length in [by_lot, block.len() - 2, block.len() - 1] {
-                self.sheet(&block[..length]);
+                self.whole(&block[..length]);
                 self.stage("3", &block[..length]);
             }
         }
@@ -119,34 +127,68 @@ impl Printing<'_> {
             for more in [1, 2, 16, 1 << 16, 100_000] {
                 let mut longer = block.to_vec();
                 longer.resize_with(block.len() + more, || self.trial.rng.draw() as u8);
-                self.sheet(&longer);
+                self.whole(&longer);
                 if more == 1 << 16 {
                     mend_sum(&mut longer);
-                    self.sheet(&longer);
+                    self.whole(&longer);
                 }
             }
         }
         let mut longest = large.clone();
         longest.resize(1 << 20, 0);
-        self.sheet(&longest);
+        self.whole(&longest);
         self.stage("3", &longest);
         self.stage("x", &longest);
         for (at, number) in [(0, 0), (VERSION_AT, 2), (N_AT, 1001), (N_AT, 65535)] {
             layout::put(&mut longest, at, number);
-            self.sheet(&longest[..100_000]);
+            self.whole(&longest[..100_000]);
             layout::put(&mut longest, at, layout::get(&large, at));
         }
         // one post too many, and otherwise a right block
         let block = self.random(Kind::Flipped, MOST + 1);
-        self.sheet(&block);
+        self.whole(&block);
         self.stage("3", &block);
     }
 
     fn each_refusal(&mut self) {
         for (_, block) in damage::one_for_each() {
-            self.sheet(&block);
+            self.whole(&block);
             self.stage("3", &block);
             self.stage("2", &block);
+        }
+        for block in cases::bad_lists() {
+            self.whole(block);
+            self.stage("5", block);
+        }
+    }
+
+    /// `why` looks at no word.
+    fn words(&mut self) {
+        for word in ["", "3", "2", "x", "13", "--help"] {
+            for block in [&d().block(), AUTUMN, b""] {
+                let call = Call::Why(Some(word.as_bytes()));
+                self.programs.compare(&mut self.trial.tester, call, block);
+            }
+        }
+    }
+
+    /// A degree out of range and a total that is wrong have words of their own, on
+    /// boards where places and totals get more digits.
+    fn degrees(&mut self) {
+        for n in [5, 10, 100, MOST] {
+            let right = self.random(Kind::Flipped, n);
+            let degree = |name: usize| layout::get(&right, layout::degree_at(n, name));
+            let few = (0..n)
+                .min_by_key(|&name| degree(name))
+                .expect("n is above 0");
+            let any = self.trial.rng.below(n);
+            let out_of_range = [0, 1, n as u16, 65535].map(|degree| (any, degree));
+            for (name, degree) in out_of_range.into_iter().chain([(few, degree(few) + 1)]) {
+                let mut block = right.clone();
+                layout::put(&mut block, layout::degree_at(n, name), degree);
+                mend_sum(&mut block);
+                self.whole(&block);
+            }
         }
     }
 
@@ -162,10 +204,20 @@ impl Printing<'_> {
         for (i, kind) in damage::KINDS.iter().enumerate() {
             let board: &Board = &boards[i % boards.len()];
             let [damaged, mended] = damage::both(kind, board, &mut self.trial.rng);
-            self.sheet(&mended);
+            self.whole(&mended);
             if i % 7 == 0 {
-                self.sheet(&damaged);
+                self.whole(&damaged);
             }
+        }
+        let bad =
+            |(i, plan): (usize, Plan)| plan.made(&boards[i % boards.len()], &mut self.trial.rng);
+        let bad: Vec<_> = Plan::all()
+            .into_iter()
+            .enumerate()
+            .filter_map(bad)
+            .collect();
+        for (board, _) in bad {
+            self.whole(&board.block());
         }
     }
 
@@ -200,65 +252,6 @@ impl Printing<'_> {
         if !never.is_empty() {
             println!("outside: {}", never.join(", "));
             exit(1);
-        }
-    }
-}
-
-/// Words that say a number, for a board of n posts: stages that there are and
-/// others, some of which look like one in 16, 32 or 64 bits.
-fn numbers(n: u128) -> Vec<String> {
-    let whole = 1 << 64;
-    let stages = [
-        vec![0, 1, 2, 3, 4, n / 3, n / 2, n - 1, n, n + 1, 1000, 1001],
-        vec![65535, 1 << 16, (1 << 16) + 3, (1 << 16) + n, 100_000],
-        vec![(1 << 32) + 3, (1 << 32) + n, whole - 1, whole, whole + 3],
-        vec![2 * whole + 3, 5 * whole + n, (1 << 96) + 3],
-    ];
-    let long = ["99999999999999999999", "100000000000000000003"].map(String::from);
-    let zeros = ["00", "003", "0000000005"].map(String::from);
-    let mut words: Vec<String> = stages.concat().iter().map(u128::to_string).collect();
-    words.extend(long.into_iter().chain(zeros));
-    // as many characters as there may be
-    words.extend([0, 3, n, n + 1].map(|stage| format!("{stage:032}")));
-    words.extend(["9".repeat(32), format!("1{:031}", 3)]);
-    words.sort();
-    words.dedup();
-    words
-}
-
-/// Words that say none.
-fn no_numbers() -> Vec<Vec<u8>> {
-    let words = [
-        "", "x", "3x", "x3", "-3", "+3", "-0", " 3", "3 ", "3\n", "\t3", " ", "/", ":", "3/", ":3",
-        "0x3", "3.0", "3,0", "1e1", "3 4", "٣", "३", "３", "3３", "³", "Ⅲ", "--help",
-    ];
-    let mut words: Vec<Vec<u8>> = words.map(|word| word.as_bytes().to_vec()).to_vec();
-    // digits alone, but too many of them
-    for characters in [33, 34, 64, 65, 1000] {
-        words.push(format!("{:0characters$}", 3).into_bytes());
-        words.push(vec![b'9'; characters]);
-    }
-    // these bytes are no characters, and some are digits but for the highest bit
-    words.extend([b"\xFF".to_vec(), b"\xB3".to_vec(), b"3\xB3".to_vec()]);
-    words
-}
-
-#[cfg(test)]
-mod tests {
-    use super::*;
-    use crate::paper;
-
-    #[test]
-    fn the_words_are_what_they_are_said_to_be() {
-        for n in [3, 5, 40, MOST as u128] {
-            let says = |word: &String| paper::number(word.as_bytes()).unwrap();
-            let stages: Vec<u128> = numbers(n).iter().map(says).collect();
-            for stage in [0, 3, n, n + 1, (1 << 64) + 3] {
-                assert!(stages.contains(&stage));
-            }
-        }
-        for word in no_numbers() {
-            assert_eq!(paper::number(&word), None, "{}", word.escape_ascii());
         }
     }
 }

@@ -5,6 +5,7 @@ use crate::layout::{self, MOST};
 use crate::linear;
 use crate::paper;
 use crate::reply::Refusal;
+use crate::words::Words;
 use std::ffi::OsString;
 use std::fmt::Write as _;
 use std::io::{self, Read, Write};
@@ -20,6 +21,10 @@ pub fn stand_in(mut words: impl Iterator<Item = OsString>) -> io::Result<()> {
                 printed(&block, stage)
             }
         },
+        Some(name) if name == "why" => {
+            read(&mut block)?;
+            why(&block)
+        }
         _ => {
             read(&mut block)?;
             printed(&block, None)
@@ -43,6 +48,34 @@ fn stage(word: &OsString) -> Option<usize> {
 fn printed(block: &[u8], stage: Option<usize>) -> String {
     let refused = |Refusal { number, place }| format!("refused {number} {place}\n");
     sheet(block, stage).unwrap_or_else(refused)
+}
+
+/// The words are those of README.md, whoever prints them.
+fn why(block: &[u8]) -> String {
+    let words = |refusal| {
+        let header = block.len() >= layout::HEADER;
+        let n = if header {
+            layout::get(block, layout::N_AT)
+        } else {
+            0
+        };
+        Words::of_readme().of(refusal, n)
+    };
+    match linear::check(block) {
+        Err(refusal) => format!(
+            "refused {} {}: {}\n",
+            refusal.number,
+            refusal.place,
+            words(refusal)
+        ),
+        Ok(n) => {
+            let (high, wide) = (n - 2, 2 * (n - 2));
+            format!(
+                "accepted {n}: the board has {n} posts, and on its sheet x goes from 0 to {wide} \
+                 and y from 0 to {high}\n"
+            )
+        }
+    }
 }
 
 fn sheet(block: &[u8], stage: Option<usize>) -> Result<String, Refusal> {
