@@ -1,3 +1,4 @@
 pub mod Shown
 pub mod Entered
 pub mod Replied
+pub mod Why

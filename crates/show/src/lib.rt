@@ -1,6 +1,9 @@
 // What the programs print, byte for byte as specs/ defines it, in a lent buffer; and handing it to the kit's write call.
+mod plain;
 mod replies;
 
+pub use plain::print_why;
+pub use plain::why;
 pub use replies::check;
 pub use replies::reply_of_post;
 pub use replies::reply_of_sheet;

@@ -2,9 +2,9 @@
 use Prim.Native.Nat.{ℕ, _+_, _*_, _-_, _^_}
 use Prim.Native.Char.{code}
 use Prim.Native.String.{String, [] as none, _∷_ as _then_}
-use mathlib.Core.Bool.{Bool, true, false, _&&_}
-use mathlib.Core.List.{List, [], _∷_}
-use lib.Dec.{ltb, leb}
+use mathlib.Core.Bool.{Bool, true, false, cond, _&&_}
+use mathlib.Core.List.{List, [], _∷_, flatMap}
+use lib.Dec.{ltb, leb, eqb}
 use Rattle.io.specs.Digits.{digits}
 use Rattle.words.specs.First.{first}
 
@@ -27,6 +27,13 @@ decimal n = digits 10 (width n) n
 -- a space and a number
 abbrev pub spaced : ℕ → List ℕ
 spaced n = 32 ∷ decimal n
+
+-- a text in which # stands for a number
+abbrev pub numeral : ℕ → ℕ → List ℕ
+numeral x c = cond (eqb c 35) (decimal x) (c ∷ [])
+
+unfoldable pub numbered : ℕ → List ℕ → List ℕ
+numbered x t = flatMap (numeral x) t
 
 -- ---- reading
 

@@ -1,7 +1,7 @@
 // Text in a lent buffer, byte for byte as specs/ defines it, and the number that a word says. What finds no room in the buffer is left out.
 ghost use mathlib.Core.Path.{_≡_};
 ghost use Prim.Native.Nat.{_+_, _*_, _-_, _≤_, _<_, min};
-ghost use Rattle.text.specs.Letters.{decimal, spaced as Letters·spaced};
+ghost use Rattle.text.specs.Letters.{decimal, spaced as Letters·spaced, numeral as Letters·numeral, numbered as Letters·numbered};
 ghost use Rattle.text.specs.Said.{saidUpTo};
 ghost use Rattle.text.specs.Filling.{filling, put as Filling·put, write};
 
@@ -44,6 +44,29 @@ pub fn spaced(out: &mut [u8], at: usize, x: u16) -> usize
 {
     let end = put(out, at, b' ');
     number(out, end, x)
+}
+
+// A letter, or the number for the letter #.
+pub fn numeral(out: &mut [u8], at: usize, c: u8, x: u16) -> usize
+    ensures { λ r. ⌜ filling r (now (out .exit)) ≡ write (filling at (now (out .entry))) (Letters·numeral x c) ⌝ }
+{
+    if c == b'#' {
+        return number(out, at, x);
+    }
+    put(out, at, c)
+}
+
+// These bytes, with the number in decimal for each #.
+pub fn numbered(out: &mut [u8], at: usize, t: &[u8], x: u16) -> usize
+    ensures { λ r. ⌜ filling r (now (out .exit)) ≡ write (filling at (now (out .entry))) (Letters·numbered x (now (t .entry))) ⌝ }
+{
+    let mut end = at;
+    let mut i = 0;
+    while i < t.len() {
+        end = numeral(out, end, t[i], x);
+        i += 1;
+    }
+    end
 }
 
 // What a word is: a number or something else.
