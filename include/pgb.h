@@ -5,7 +5,8 @@
  * overlaps the block. Calls keep nothing between them, and use at most 64 bytes of stack for each post that the longest board has.
  *
  * reply: number * 65536 + value; number 0 = accepted (value: n for check, 2k for sheet, 0 for post), else the refusal's number with its place:
- * 1 to 13 for check, also 15 and 16 for sheet, and 15 and 17 for post. 14 is retired: it is never given, and its number is not used again.
+ * 1 to 13 and 18 to 20 for check, also 15 and 16 for sheet, and 15 and 17 for post. 18, 19 and 20 stand beside 9: which fault a list has.
+ * README.md has the words for each. 14 is retired: it is never given, and its number is not used again.
  */
 #ifndef PGB_H
 #define PGB_H
