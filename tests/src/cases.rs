@@ -1,4 +1,4 @@
-//! The numbered cases E1 to E15 of docs/RULES.md, each compared and asserted as it
+//! The numbered cases E1 to E16 of docs/RULES.md, each compared and asserted as it
 //! stands there.
 
 use crate::board::{d, mend_sum, t, Board};
@@ -105,15 +105,24 @@ pub fn bad_lists() -> impl Iterator<Item = &'static [u8]> {
     BAD_LISTS.iter().map(|bad| bad.file)
 }
 
-/// Cases 12 to 15.
+fn d_with_list(post: usize, list: &[u16]) -> Vec<u8> {
+    let mut board = d();
+    board.rings[post] = list.to_vec();
+    board.block()
+}
+
+/// Cases 12 to 16.
 fn refused_lists(tester: &mut Tester) {
     for bad in &BAD_LISTS {
-        let mut board = d();
-        board.rings[2] = bad.list.to_vec();
-        let block = board.block();
+        let block = d_with_list(2, &bad.list);
         assert_eq!(sum_of(&block), bad.sum);
         assert_eq!(block, bad.file);
         assert_eq!(tester.check(&block), refused(bad.number, 2));
+    }
+    for (list, number) in [([1, 7, 1, 4], 9), ([1, 1, 7, 4], 19)] {
+        let block = d_with_list(0, &list);
+        assert_eq!(sum_of(&block), 288);
+        assert_eq!(tester.check(&block), refused(number, 0));
     }
 }
 

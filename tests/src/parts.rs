@@ -26,7 +26,7 @@ macro_rules! parts {
 
 /// All parts. The longest come first, so that two processes end at about the same time.
 pub const PARTS: &[Part] = parts![
-    "cases", "the cases E1 to E15 of docs/RULES.md": |trial| cases::run(&mut trial.tester);
+    "cases", "the cases E1 to E16 of docs/RULES.md": |trial| cases::run(&mut trial.tester);
     "programs", "what the programs sheet, stage and why print": printed::programs;
     "large", "random boards up to the most posts there can be": right::large_boards;
     "small", "every board with every order up to 8 posts": right::every_small_board;

@@ -1,4 +1,4 @@
-// The blocks of the cases E1 to E11, byte by byte: the very ones that the table of starred cases speaks of.
+// The blocks of the cases E1 to E11, byte by byte: the very ones that the table of starred cases speaks of (lists.rt has those of E12 to E16).
 ghost use mathlib.Core.Path.{_≡_};
 ghost use mathlib.Core.List.{[], _∷_};
 ghost use Rattle.rings.specs.Boards.{orderD};

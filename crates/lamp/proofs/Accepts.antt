@@ -20,7 +20,8 @@ use Rattle.rings.specs.Rings.{ringRule, triangleRule, outerRule}
 use Rattle.order.specs.Order.{twoPlaced, oneRun}
 use Rattle.order.proofs.Sound.{Boarded, Passes}
 use Rattle.lamp.specs.Lamp.{someName, entryFault, degreeFault, ringFault, triangleFault, entryRow, degreeRow, highRow, itselfRow}
-use Rattle.lamp.specs.Lamp.{repeatedRow, unreturnedRow, triangleRow, outerRow, fewRow, brokenRow, headerRows, sumRows, orderRows, degreeRows, ringRows, triangleRows, outerRows, positionRows}
+use Rattle.lamp.specs.Lamp.{repeatedRow, unreturnedRow, triangleRow, outerRow, fewRow, brokenRow, headerRows, sumRows, orderRows, degreeRows}
+use Rattle.lamp.specs.Lamp.{ringRows, triangleRows, outerRows, positionRows}
 use Rattle.lamp.specs.Lamp.{fittingRows, stageRows, Row, blockRows, checkRows}
 use Rattle.lamp.specs.Given.{accepted, checkReply, NoneApplies}
 use Rattle.lamp.proofs.Given.{given-says, given-none, accepted-is, none-left, none-right, none-both}

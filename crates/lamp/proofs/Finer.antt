@@ -6,12 +6,12 @@ use mathlib.Core.List.{List, [], _∷_, _++_, flatMap, append-nil}
 use Rattle.words.specs.First.{numbers}
 use Rattle.block.specs.Block.{posts, lists}
 use Rattle.rings.specs.Faults.{isHigh, isItself, isRepeated}
-use Rattle.lamp.specs.Lamp.{Row, name, someName, ringFault, headerRows, sumRows, orderRows, degreeRows, ringRows, triangleRows, outerRows}
-use Rattle.lamp.specs.Lamp.{positionRows, fittingRows, stageRows, roomRows, nameRows, blockRows, checkRows, sheetRows, postRows}
+use Rattle.lamp.specs.Lamp.{Row, name, someName, ringFault, ringRows}
+use Rattle.lamp.specs.Lamp.{positionRows, stageRows, roomRows, nameRows, blockRows, checkRows, sheetRows, postRows}
 use Rattle.lamp.specs.Given.{refused, given}
 use Rattle.lamp.specs.Finer.{wholeRow, wholeRows, coarseRows, coarseNumber, coarse, Finer}
 use Rattle.lamp.proofs.Given.{given-end, given-skip, given-stop, given-past}
-use Rattle.lamp.proofs.RingRows.{u, i, numberBy, exactly, rings-none, ring-given}
+use Rattle.lamp.proofs.RingRows.{beforeRings, afterRings, u, i, numberBy, exactly, rings-none, ring-given}
 
 -- rows whose numbers stay
 abbrev Kept : List Row → Type 0
@@ -62,10 +62,7 @@ module _ {A : Type 0} (s : List ℕ) (answer : List ℕ → A) where
 
 -- ---- the rows of the services
 
-abbrev before : List Row
-before = headerRows ++ sumRows ++ orderRows ++ degreeRows
-
-before-kept : Kept before
+before-kept : Kept beforeRings
 before-kept = (refl, (refl, (refl, (refl, (refl, (refl, (refl, (refl, tt))))))))
 
 fitting-kept : (m k : ℕ) → Kept (flatMap positionRows (numbers k m))
@@ -73,7 +70,7 @@ unfolding flatMap numbers positionRows
 fitting-kept zero k = tt
 fitting-kept (suc m) k = (refl, (refl, fitting-kept m (suc k)))
 
-after-kept : (s : List ℕ) → Kept ((triangleRows ++ outerRows) ++ fittingRows s)
+after-kept : (s : List ℕ) → Kept (afterRings s)
 after-kept s = (refl, (refl, fitting-kept (posts s - 2) 3))
 
 -- check's rows, and after them any whose numbers stay
@@ -81,9 +78,9 @@ finer : {A : Type 0} (answer : List ℕ → A) (s : List ℕ) (after : List Row)
     → coarse (given (checkRows s ++ after) s answer) ≡ given (coarseRows s ++ after) s answer
 unfolding checkRows blockRows coarseRows
 finer answer s after h =
-    let rest = ((triangleRows ++ outerRows) ++ fittingRows s) ++ after in
-    coarse-past s answer before (ringRows ++ rest) (wholeRows ++ rest) before-kept
-    (coarse-rings s answer rest (kept-both ((triangleRows ++ outerRows) ++ fittingRows s) after (after-kept s) h))
+    let rest = afterRings s ++ after in
+    coarse-past s answer beforeRings (ringRows ++ rest) (wholeRows ++ rest) before-kept
+    (coarse-rings s answer rest (kept-both (afterRings s) after (after-kept s) h))
 
 finer-check : {A : Type 0} (answer : List ℕ → A) (s : List ℕ) → coarse (given (checkRows s) s answer) ≡ given (coarseRows s) s answer
 finer-check answer s =

@@ -17,14 +17,14 @@ use Rattle.block.specs.Block.{posts, lists}
 use Rattle.rings.specs.Rings.{ring, ringRule}
 use Rattle.rings.specs.Faults.{entry, isHigh, isItself, isRepeated, isUnreturned, isBad, firstBad}
 use Rattle.rings.proofs.Faults.{rule-fine, broken-bad}
-use Rattle.lamp.specs.Lamp.{Row, name, someName, ringFault, headerRows, sumRows, orderRows, degreeRows, ringRows, triangleRows, outerRows}
-use Rattle.lamp.specs.Lamp.{positionRows, fittingRows, stageRows, roomRows, nameRows, blockRows, checkRows, sheetRows, postRows}
+use Rattle.lamp.specs.Lamp.{Row, name, someName, ringFault, headerRows, sumRows, orderRows, degreeRows, ringRows}
+use Rattle.lamp.specs.Lamp.{positionRows, stageRows, roomRows, nameRows, blockRows, checkRows, sheetRows, postRows}
 use Rattle.lamp.specs.Given.{refused, given}
 use Rattle.lamp.specs.Retired.{NoneIs}
 use Rattle.lamp.specs.FirstWrong.{Wrong, high, itself, repeated, unreturned, Right, FirstWrong, listNumbers, ToldRight}
 use Rattle.lamp.proofs.Given.{given-skip, given-stop, given-past}
 use Rattle.lamp.proofs.Retired.{none-given, is-both}
-use Rattle.lamp.proofs.RingRows.{numberBy, rings-none, ring-given, lowest-broken}
+use Rattle.lamp.proofs.RingRows.{beforeRings, afterRings, numberBy, rings-none, ring-given, lowest-broken}
 
 -- ---- what the four tests say of an entry
 module _ (G : List (List ℕ)) (u i : ℕ) where
@@ -175,10 +175,7 @@ module _ (number : ℕ) (h : In number listNumbers) where
   other : (m : ℕ) → mem listNumbers m ≡ false → m ≢ number
   other m e q = true≢false (sym (mem-true listNumbers m (subst (λ (a : ℕ). In a listNumbers) (sym q) h)) ∙ e)
 
-  abbrev before : List Row
-  before = headerRows ++ sumRows ++ orderRows ++ degreeRows
-
-  before-others : NoneIs number before
+  before-others : NoneIs number beforeRings
   unfolding mem
   before-others =
       let five : NoneIs number headerRows = (other _ refl, (other _ refl, (other _ refl, (other _ refl, (other _ refl, tt))))) in
@@ -189,21 +186,18 @@ module _ (number : ℕ) (h : In number listNumbers) where
   fitting-others zero k = tt
   fitting-others (suc m) k = (other _ refl, (other _ refl, fitting-others m (suc k)))
 
-  abbrev behind : List ℕ → List Row
-  behind s = (triangleRows ++ outerRows) ++ fittingRows s
-
-  behind-others : (s : List ℕ) → NoneIs number (behind s)
+  after-others : (s : List ℕ) → NoneIs number (afterRings s)
   unfolding mem
-  behind-others s = (other _ refl, (other _ refl, fitting-others (posts s - 2) 3))
+  after-others s = (other _ refl, (other _ refl, fitting-others (posts s - 2) 3))
 
   -- check's rows, and after them any with other numbers
   told-wrong : {A : Type 0} (answer : List ℕ → A) (s : List ℕ) (place : ℕ) (after : List Row) → NoneIs number after
       → given (checkRows s ++ after) s answer ≡ refused number place → FirstWrong (lists s) place number
   unfolding checkRows blockRows
   told-wrong answer s place after k e =
-      let rest = behind s ++ after in
-      by-rings s answer number place rest (is-both number (behind s) after (behind-others s) k)
-      (past-others s answer number place before (ringRows ++ rest) before-others e)
+      let rest = afterRings s ++ after in
+      by-rings s answer number place rest (is-both number (afterRings s) after (after-others s) k)
+      (past-others s answer number place beforeRings (ringRows ++ rest) before-others e)
 
   told-check : {A : Type 0} (answer : List ℕ → A) (s : List ℕ) (place : ℕ) → given (checkRows s) s answer ≡ refused number place
       → FirstWrong (lists s) place number

@@ -15,13 +15,21 @@ use Rattle.rings.specs.Rings.{ringRule}
 use Rattle.rings.specs.Faults.{isHigh, isItself, isRepeated, isUnreturned, isBad, firstBad, faultAt, faultOf}
 use Rattle.rings.specs.declared.ListFault.{ListFault}
 use Rattle.rings.proofs.Faults.{broken-bad}
-use Rattle.lamp.specs.Lamp.{Row, name, someName, ringFault, highRow, itselfRow, repeatedRow, unreturnedRow, ringRows}
+use Rattle.lamp.specs.Lamp.{Row, name, someName, ringFault, highRow, itselfRow, repeatedRow, unreturnedRow, headerRows, sumRows}
+use Rattle.lamp.specs.Lamp.{orderRows, degreeRows, ringRows, triangleRows, outerRows, fittingRows}
 use Rattle.lamp.specs.Given.{accepted, refused, replyOf, given, NoneApplies}
 use Rattle.lamp.specs.Finer.{applies}
 use Rattle.lamp.specs.declared.Refusal.the-variants.{High, Itself, Repeated, Unreturned}
 use Rattle.lamp.specs.declared.Answer.{Answer}
 use Rattle.lamp.specs.declared.Answer.the-variants.{Accepted, Refused}
 use Rattle.lamp.proofs.Given.{given-first, given-none}
+
+-- check's rows before the four, and after them
+abbrev pub beforeRings : List Row
+beforeRings = headerRows ++ sumRows ++ orderRows ++ degreeRows
+
+abbrev pub afterRings : List ℕ → List Row
+afterRings s = (triangleRows ++ outerRows) ++ fittingRows s
 
 -- what the code answers for what it found in the lists
 abbrev pub listsAnswer : ℕ → ListFault → Answer

@@ -28,7 +28,25 @@ starred-given = (
       (refl, refl),
       (
         (refl, refl),
-        (refl, ((refl, refl), (refl, ((refl, refl), (refl, ((refl, refl), ((refl, refl), (refl, (refl, (refl, (refl, (refl, (refl, (refl, (refl, (refl, (refl, (refl, (refl, (refl, tt)))))))))))))))))))),
+        (
+          refl,
+          (
+            (refl, refl),
+            (
+              refl,
+              (
+                (refl, refl),
+                (
+                  refl,
+                  (
+                    (refl, refl),
+                    ((refl, refl), (refl, (refl, (refl, (refl, (refl, (refl, (refl, (refl, (refl, (refl, (refl, (refl, (refl, tt)))))))))))))),
+                  ),
+                ),
+              ),
+            ),
+          ),
+        ),
       ),
     ),
   ),
