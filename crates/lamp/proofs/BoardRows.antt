@@ -12,7 +12,7 @@ use Rattle.words.specs.Positions.{post, earlier}
 use Rattle.words.proofs.First.{some-none}
 use Rattle.block.specs.Block.{posts, order, lists}
 use Rattle.rings.specs.Rings.{ringRule, triangleRule, outerRule}
-use Rattle.rings.specs.Faults.{faultOf}
+use Rattle.rings.specs.Found.{faultOf}
 use Rattle.rings.specs.Held.{held}
 use Rattle.rings.specs.declared.ListFault.{ListFault}
 use Rattle.order.specs.Order.{twoPlaced, oneRun}
@@ -23,14 +23,14 @@ use Rattle.order.proofs.Sound.{position-says}
 use Rattle.lamp.specs.Lamp.{name, ringFault, triangleFault, triangleRow, outerRow, fewRow, brokenRow, ringRows, triangleRows}
 use Rattle.lamp.specs.Lamp.{outerRows, positionRows, checkRows, blockRows, headerRows, sumRows}
 use Rattle.lamp.specs.Given.{accepted, refused, replyOf, given, checkReply, NoneApplies}
-use Rattle.lamp.specs.Loaded.{loadRows, loadedRows, rowsFrom, Trimmed, Entered, Ringed}
+use Rattle.lamp.specs.Loaded.{loadRows, loadedRows, rowsFrom, listsAnswer, Trimmed, Entered, Ringed}
 use Rattle.lamp.specs.declared.Refusal.the-variants.{Triangle, Outer, Few, Broken}
 use Rattle.lamp.specs.declared.Answer.{Answer}
 use Rattle.lamp.specs.declared.Answer.the-variants.{Accepted, Refused}
 use Rattle.lamp.proofs.Given.{given-first, given-past, given-none, given-says, given-refused, refused-any}
 use Rattle.lamp.proofs.Tried.{found, not-found}
 use Rattle.lamp.proofs.Accepts.{lists-count}
-use Rattle.lamp.proofs.RingRows.{listsAnswer, none-rings, fault-reply}
+use Rattle.lamp.proofs.RingRows.{none-rings, fault-reply}
 
 -- what the code answers for what the rule found in position k
 abbrev pub answerAt : ℕ → Fit → Answer

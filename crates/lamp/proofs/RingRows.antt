@@ -12,16 +12,16 @@ use Rattle.words.proofs.First.{first-is}
 use Rattle.words.proofs.Tests.{neither}
 use Rattle.block.specs.Block.{posts, lists}
 use Rattle.rings.specs.Rings.{ringRule}
-use Rattle.rings.specs.Faults.{isHigh, isItself, isRepeated, isUnreturned, isBad, firstBad, faultAt, faultOf}
+use Rattle.rings.specs.Faults.{isHigh, isItself, isRepeated, isUnreturned, isBad, firstBad}
+use Rattle.rings.specs.Found.{faultAt, faultOf}
 use Rattle.rings.specs.declared.ListFault.{ListFault}
 use Rattle.rings.proofs.Faults.{broken-bad}
 use Rattle.lamp.specs.Lamp.{Row, name, someName, ringFault, highRow, itselfRow, repeatedRow, unreturnedRow, headerRows, sumRows}
 use Rattle.lamp.specs.Lamp.{orderRows, degreeRows, ringRows, triangleRows, outerRows, fittingRows}
 use Rattle.lamp.specs.Given.{accepted, refused, replyOf, given, NoneApplies}
 use Rattle.lamp.specs.Finer.{applies}
+use Rattle.lamp.specs.Loaded.{listsAnswer}
 use Rattle.lamp.specs.declared.Refusal.the-variants.{High, Itself, Repeated, Unreturned}
-use Rattle.lamp.specs.declared.Answer.{Answer}
-use Rattle.lamp.specs.declared.Answer.the-variants.{Accepted, Refused}
 use Rattle.lamp.proofs.Given.{given-first, given-none}
 
 -- check's rows before the four, and after them
@@ -30,14 +30,6 @@ beforeRings = headerRows ++ sumRows ++ orderRows ++ degreeRows
 
 abbrev pub afterRings : List ℕ → List Row
 afterRings s = (triangleRows ++ outerRows) ++ fittingRows s
-
--- what the code answers for what it found in the lists
-abbrev pub listsAnswer : ℕ → ListFault → Answer
-listsAnswer n ListFault.Sound = Accepted n
-listsAnswer n (ListFault.High u) = Refused (High u)
-listsAnswer n (ListFault.Itself u) = Refused (Itself u)
-listsAnswer n (ListFault.Repeated u) = Refused (Repeated u)
-listsAnswer n (ListFault.Unreturned u) = Refused (Unreturned u)
 
 -- the number by which of the faults an entry has, if it has one
 abbrev pub numberBy : Bool → Bool → Bool → ℕ
@@ -77,24 +69,6 @@ module _ (s : List ℕ) where
   lowest-bad : someName ringFault s ≡ true → isBad G u i ≡ true
   lowest-bad t = broken-bad G u (lowest-broken t) .1
 
-  one-of : (x a b c d : Bool) → (x ≡ true → a || (b || (c || d)) ≡ true) → (x && a) || ((x && b) || ((x && c) || ((x && d) || false))) ≡ x
-  one-of false a b c d f = refl
-  one-of true true b c d f = refl
-  one-of true false true c d f = refl
-  one-of true false false true d f = refl
-  one-of true false false false true f = refl
-  one-of true false false false false f = f refl
-
-  pub exactly : applies ringRows s ≡ someName ringFault s
-  unfolding isBad
-  exactly = one-of (someName ringFault s) (isHigh G u i) (isItself G u i) (isRepeated G u i) (isUnreturned G u i) lowest-bad
-
-  pub rings-none : someName ringFault s ≡ false → NoneApplies ringRows s
-  rings-none e = applies-none ringRows s (exactly ∙ e)
-
-  pub none-rings : NoneApplies ringRows s → someName ringFault s ≡ false
-  none-rings h = sym exactly ∙ none-applies ringRows s h
-
   -- where some list breaks the rule, the first of the four that applies is given
   module _ {A : Type 0} (answer : List ℕ → A) (rest : List Row) (t : someName ringFault s ≡ true) where
     by-fault : (a b c d : Bool) → isHigh G u i ≡ a → isItself G u i ≡ b → isRepeated G u i ≡ c → isUnreturned G u i ≡ d → a || (b || (c || d)) ≡ true
@@ -112,6 +86,24 @@ module _ (s : List ℕ) where
     pub ring-given : given (ringRows ++ rest) s answer ≡ refused (numberBy (isHigh G u i) (isItself G u i) (isRepeated G u i)) u
     unfolding isBad
     ring-given = by-fault (isHigh G u i) (isItself G u i) (isRepeated G u i) (isUnreturned G u i) refl refl refl refl (lowest-bad t)
+
+  one-of : (x a b c d : Bool) → (x ≡ true → a || (b || (c || d)) ≡ true) → (x && a) || ((x && b) || ((x && c) || ((x && d) || false))) ≡ x
+  one-of false a b c d f = refl
+  one-of true true b c d f = refl
+  one-of true false true c d f = refl
+  one-of true false false true d f = refl
+  one-of true false false false true f = refl
+  one-of true false false false false f = f refl
+
+  pub exactly : applies ringRows s ≡ someName ringFault s
+  unfolding isBad
+  exactly = one-of (someName ringFault s) (isHigh G u i) (isItself G u i) (isRepeated G u i) (isUnreturned G u i) lowest-bad
+
+  pub rings-none : someName ringFault s ≡ false → NoneApplies ringRows s
+  rings-none e = applies-none ringRows s (exactly ∙ e)
+
+  pub none-rings : NoneApplies ringRows s → someName ringFault s ≡ false
+  none-rings h = sym exactly ∙ none-applies ringRows s h
 
   -- what the code answers for the fault that it found
   answered : (n : ℕ) (a b c d : Bool) → a || (b || (c || d)) ≡ true

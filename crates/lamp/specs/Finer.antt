@@ -4,8 +4,8 @@ use mathlib.Core.Path.{_≡_}
 use mathlib.Core.Bool.{Bool, false, cond, _&&_, _||_}
 use mathlib.Core.List.{List, [], _∷_, _++_}
 use lib.Dec.{leb}
-use Rattle.lamp.specs.Lamp.{Row, name, someName, ringFault, headerRows, sumRows, orderRows, degreeRows, ringRows, triangleRows, outerRows}
-use Rattle.lamp.specs.Lamp.{fittingRows, stageRows, roomRows, nameRows, checkRows, sheetRows, postRows}
+use Rattle.lamp.specs.Lamp.{Row, name, someName, ringFault, ringRows, fittingRows, stageRows, roomRows, nameRows, blockRowsWith, checkRows}
+use Rattle.lamp.specs.Lamp.{sheetRows, postRows}
 use Rattle.lamp.specs.Given.{Reply, accepted, refused, given}
 
 -- one row with the number 9: some list breaks the ring rule; and check's table with it in the place of the four
@@ -16,7 +16,7 @@ abbrev pub wholeRows : List Row
 wholeRows = wholeRow ∷ []
 
 unfoldable pub coarseRows : List ℕ → List Row
-coarseRows s = (headerRows ++ sumRows ++ orderRows ++ degreeRows ++ wholeRows ++ triangleRows ++ outerRows) ++ fittingRows s
+coarseRows s = blockRowsWith wholeRows ++ fittingRows s
 
 -- the reply with 9 for 18, 19 and 20
 abbrev pub coarseNumber : ℕ → ℕ

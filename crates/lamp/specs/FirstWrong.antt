@@ -21,7 +21,8 @@ pub data Wrong (G : List (List ℕ)) (u i : ℕ) : ℕ → Type 0 where
 abbrev pub Right : List (List ℕ) → ℕ → ℕ → Type 0
 Right G u i = (number : ℕ) → ¬ (Wrong G u i number)
 
--- u's list is the lowest with a wrong entry, and its first wrong entry is wrong in this way and in none that is tried before
+-- u's list is the lowest with a wrong entry, and its first wrong entry is wrong in this way and in none that is tried before: with no lower
+-- number, since the four numbers rise as they are tried
 pub record FirstWrong (G : List (List ℕ)) (u number : ℕ) : Type 0 where
   pub lower : (w i : ℕ) → w < u → i < length (ring G w) → Right G w i
   pub i : ℕ

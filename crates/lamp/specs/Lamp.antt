@@ -169,9 +169,12 @@ nameRows u = nameRow u ∷ []
 
 -- ---- the services' tables
 
--- what check asks before the rule per position
+-- what check asks before the rule per position, with these rows for step 9
+abbrev pub blockRowsWith : List Row → List Row
+blockRowsWith rings = headerRows ++ sumRows ++ orderRows ++ degreeRows ++ rings ++ triangleRows ++ outerRows
+
 unfoldable pub blockRows : List Row
-blockRows = headerRows ++ sumRows ++ orderRows ++ degreeRows ++ ringRows ++ triangleRows ++ outerRows
+blockRows = blockRowsWith ringRows
 
 unfoldable pub checkRows : List ℕ → List Row
 checkRows s = blockRows ++ fittingRows s

@@ -9,10 +9,13 @@ use Rattle.block.specs.Layout.{limit, entries}
 use Rattle.block.specs.Block.{posts, order, lists, badEntry, Headed}
 use Rattle.rings.specs.Rings.{ringRule}
 use Rattle.rings.specs.Held.{held, Cuts}
+use Rattle.rings.specs.declared.ListFault.{ListFault}
 use Rattle.order.specs.Ranked.{Ranked}
 use Rattle.lamp.specs.Lamp.{Row, orderRows, degreeRows, ringRows, triangleRows, outerRows, positionRows}
 use Rattle.lamp.specs.Given.{accepted, replyOf}
 use Rattle.lamp.specs.declared.Answer.{Answer}
+use Rattle.lamp.specs.declared.Answer.the-variants.{Accepted, Refused}
+use Rattle.lamp.specs.declared.Refusal.the-variants.{High, Itself, Repeated, Unreturned}
 
 -- the rule per position, from position k on
 abbrev pub rowsFrom : ℕ → ℕ → List Row
@@ -27,6 +30,14 @@ boardRows = ringRows ++ triangleRows ++ outerRows
 
 abbrev pub loadedRows : List ℕ → List Row
 loadedRows s = boardRows ++ rowsFrom 3 (posts s)
+
+-- what is answered for what was found in the lists of n posts: a refusal for each fault, which toldOf gives its number and place
+abbrev pub listsAnswer : ℕ → ListFault → Answer
+listsAnswer n ListFault.Sound = Accepted n
+listsAnswer n (ListFault.High u) = Refused (High u)
+listsAnswer n (ListFault.Itself u) = Refused (Itself u)
+listsAnswer n (ListFault.Repeated u) = Refused (Repeated u)
+listsAnswer n (ListFault.Unreturned u) = Refused (Unreturned u)
 
 -- there is room for the longest block
 pub record Wide (vs at ents : List ℕ) : Type 0 where

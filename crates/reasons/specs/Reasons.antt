@@ -20,7 +20,7 @@ inList t = letters "in the list of post #: " ++ t
 -- the words of a refusal, in which # stands for a number
 abbrev pub wordsOf : Refusal → List ℕ
 wordsOf Short = letters "the block is cut short: it has fewer than 7 bytes"
-wordsOf Mark = letters "this is no such block: it does not begin with PGB"
+wordsOf Mark = letters "this is no block: it does not begin with PGB"
 wordsOf Version = letters "the block is of another version than 1"
 wordsOf Posts = letters "the number of posts is below 3 or above #"
 wordsOf Length = letters "the block has too few or too many bytes for its number of posts"
@@ -33,9 +33,9 @@ wordsOf (Repeated u) = inList (letters "a name that stands there already")
 wordsOf (Unreturned u) = inList (letters "a post whose own list does not have post #; either of the two lists may be the wrong one")
 wordsOf (Triangle u) =
     letters "around post #: two neighbours stand side by side in its list, v and then w, but in the list of v post # does not come right after w; "
-    ++ letters "v and w may not be wired, or a list may be out of sequence or clockwise"
+    ++ letters "perhaps v and w are not wired, or a list is out of sequence or clockwise"
 wordsOf Outer =
-    letters "the first two posts of the order are not wired, or in the list of the second "
+    letters "the first two posts of the order are not wired, or in the list of the second, "
     ++ letters "the last post of the order does not come right after the first"
 wordsOf (Few k) = atPosition (letters "the post has fewer than two wires to posts fitted before it")
 wordsOf (Broken k) =

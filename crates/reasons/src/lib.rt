@@ -43,14 +43,14 @@ fn line(t: &[u8], k: usize, x: u16, out: &mut [u8], at: usize) -> usize
     end
 }
 
-// The words, a line for each number: # stands for the place. Line 0 is for number 8 where the place is the number of posts; 14 is retired.
+// The words, a line for each number: # stands for the place, in number 4 for the limit. Line 0 is for number 8 where the place is the number of posts; 14 is retired.
 fn words_of(k: usize, x: u16, out: &mut [u8], at: usize) -> usize
     ensures { λ e. ⌜ filling e (now (out .exit)) ≡ write (filling at (now (out .entry))) (numbered x (lineAt k table)) ⌝ }
 {
     line(
         b"the degrees of all # posts together are not 6 times # less 12\n\
         the block is cut short: it has fewer than 7 bytes\n\
-        this is no such block: it does not begin with PGB\n\
+        this is no block: it does not begin with PGB\n\
         the block is of another version than 1\n\
         the number of posts is below 3 or above #\n\
         the block has too few or too many bytes for its number of posts\n\
@@ -59,8 +59,8 @@ fn words_of(k: usize, x: u16, out: &mut [u8], at: usize) -> usize
         the degree of post # is below 2, or so high that there are not that many other posts\n\
         in the list of post #: a name that no post has\n\
         around post #: two neighbours stand side by side in its list, v and then w, but in the list of v post # does not come right after w; \
-        v and w may not be wired, or a list may be out of sequence or clockwise\n\
-        the first two posts of the order are not wired, or in the list of the second \
+        perhaps v and w are not wired, or a list is out of sequence or clockwise\n\
+        the first two posts of the order are not wired, or in the list of the second, \
         the last post of the order does not come right after the first\n\
         at position # of the order: the post has fewer than two wires to posts fitted before it\n\
         at position # of the order: the post's wires to posts fitted before it do not lie side by side; two posts may stand in each other's place\n\

@@ -16,7 +16,8 @@ use Rattle.words.proofs.First.{IsFirst, first-is, first-here, first-next, first
 use Rattle.words.proofs.Tests.{holds, neither, mem-in, mem-true, mem-false, place-in, in-place}
 use Rattle.words.proofs.Positions.{in-take, take-in}
 use Rattle.rings.specs.Rings.{ring, ringRule}
-use Rattle.rings.specs.Faults.{entry, isHigh, isItself, isRepeated, isUnreturned, isBad, firstBad, faultAt, faultOf}
+use Rattle.rings.specs.Faults.{entry, isHigh, isItself, isRepeated, isUnreturned, isBad, firstBad}
+use Rattle.rings.specs.Found.{faultAt, faultOf}
 use Rattle.rings.specs.Held.{held, Cuts}
 use Rattle.rings.specs.declared.ListFault.the-variants.{Sound, High, Itself, Repeated, Unreturned}
 use Rattle.rings.proofs.Turns.{part-at}

@@ -1,15 +1,13 @@
 -- What can be at fault with an entry of a list (docs/RULES.md: N9, N18, N19, N20), as tests that compute. Entries are counted from 0. Where a
 -- name stands twice, only the later entry is bad, while G3 fails of both: of a whole list they say the same.
 use Prim.Native.Nat.{ℕ}
-use mathlib.Core.Bool.{Bool, not, cond, _||_}
+use mathlib.Core.Bool.{Bool, not, _||_}
 use mathlib.Core.List.{List}
-use lib.Dec.{ltb, leb, eqb}
+use lib.Dec.{leb, eqb}
 use lib.ListN.{length, getD, take}
 use Rattle.words.specs.First.{first}
 use Rattle.words.specs.Lists.{mem}
-use Rattle.rings.specs.Rings.{ring, ringRule}
-use Rattle.rings.specs.declared.ListFault.{ListFault}
-use Rattle.rings.specs.declared.ListFault.the-variants.{Sound, High, Itself, Repeated, Unreturned}
+use Rattle.rings.specs.Rings.{ring}
 
 -- entry i of u's list
 abbrev pub entry : List (List ℕ) → ℕ → ℕ → ℕ
@@ -38,14 +36,3 @@ isBad G u i = isHigh G u i || (isItself G u i || (isRepeated G u i || isUnreturn
 -- which entry of u's list is the first bad one; the list's length if there is none
 unfoldable pub firstBad : List (List ℕ) → ℕ → ℕ
 firstBad G u = first 0 (length (ring G u)) (isBad G u)
-
--- ---- as the code tells them
-
--- an entry's fault, the first of the four that it has
-unfoldable pub faultAt : List (List ℕ) → ℕ → ℕ → ListFault
-faultAt G u i =
-    cond (isHigh G u i) (High u) (cond (isItself G u i) (Itself u) (cond (isRepeated G u i) (Repeated u) (cond (isUnreturned G u i) (Unreturned u) Sound)))
-
--- of all lists: the fault of the first bad entry in the lowest list that breaks G3
-unfoldable pub faultOf : List (List ℕ) → ListFault
-faultOf G = let u = first 0 (length G) (λ z. not (ringRule G z)) in cond (ltb u (length G)) (faultAt G u (firstBad G u)) Sound

@@ -12,11 +12,11 @@ ghost use Rattle.words.specs.Numbers.{sumOf};
 ghost use Rattle.block.specs.Layout.{limit, entries};
 ghost use Rattle.block.specs.Block.{degrees, lists, Headed};
 ghost use Rattle.rings.specs.Rings.{around, next, follows, triangleRule, outerRule};
-ghost use Rattle.rings.specs.Faults.{faultAt, faultOf};
+ghost use Rattle.rings.specs.Found.{faultAt, faultOf};
 ghost use Rattle.rings.specs.Held.{held, Cuts};
 
 // What is at fault with the lists: nothing; or the first bad entry in the list of this name, the lowest with one: it is no post's name, is the post
-// itself, repeats an earlier entry, or is not returned by the other post.
+// itself, repeats an entry before it, or is a post whose own list does not have this one.
 pub enum ListFault {
     Sound,
     High(u16),

@@ -155,8 +155,7 @@ mod tests {
         assert_eq!(Seen::default().missing(&[]), ["9", "18", "19", "20"]);
     }
 
-    /// Both implementations here give each foretold refusal, and each number and plan comes
-    /// up on every sort of boards.
+    /// Each number and plan is made on every sort of boards.
     #[test]
     fn every_sort_of_boards_has_a_place_for_what_it_must() {
         let mut rng = Rng::new(12);

@@ -13,7 +13,8 @@ use lib.ListN.{length}
 use Rattle.words.specs.First.{first}
 use Rattle.words.proofs.First.{first-here, first-next, first-end}
 use Rattle.rings.specs.Rings.{ringRule}
-use Rattle.rings.specs.Faults.{isBad, firstBad, faultAt}
+use Rattle.rings.specs.Faults.{isBad, firstBad}
+use Rattle.rings.specs.Found.{faultAt}
 use Rattle.rings.specs.Held.{held}
 use Rattle.rings.specs.declared.ListFault.the-variants.{Sound}
 use Rattle.rings.proofs.Held.{held-length, part-within}

@@ -138,8 +138,9 @@ fn every_misreading_is_found_out() {
     }
 }
 
-/// Of a first bad entry one fault alone can be told, so that the order in which its
-/// faults are tried shows on no block; the order of entries and of lists does.
+/// A first bad entry has one fault alone (one of n or more is returned by nobody, but
+/// has no list that could), so that of the orders in which its faults could be tried
+/// only 9 before 20 shows on a block; the order of entries and of lists does.
 #[test]
 fn a_first_bad_entry_has_one_fault() {
     let mut rng = Rng::new(11);

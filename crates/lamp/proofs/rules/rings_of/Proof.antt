@@ -6,7 +6,7 @@ use lib.ListN.{length}
 use Rattle.rings.specs.declared.ListFault.{ListFault}
 use Rattle.lamp.specs.Given.{replyOf}
 use Rattle.lamp.proofs.BoardRows.{rings-found}
-use Rattle.lamp.proofs.RingRows.{listsAnswer}
+use Rattle.lamp.specs.Loaded.{listsAnswer}
 
 first-bad-ring-requires : tie.Need-first-bad-ring-requires
 first-bad-ring-requires c κs = search needs
