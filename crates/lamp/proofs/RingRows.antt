@@ -71,9 +71,12 @@ module _ (s : List ℕ) where
 
   -- where some list breaks the rule, the first of the four that applies is given
   module _ {A : Type 0} (answer : List ℕ → A) (rest : List Row) (t : someName ringFault s ≡ true) where
+    by-high : isHigh G u i ≡ true → given (ringRows ++ rest) s answer ≡ refused 9 u
+    by-high p = given-first s answer [] highRow (itselfRow ∷ repeatedRow ∷ unreturnedRow ∷ rest) tt (rw (t, p) refl)
+
     by-fault : (a b c d : Bool) → isHigh G u i ≡ a → isItself G u i ≡ b → isRepeated G u i ≡ c → isUnreturned G u i ≡ d → a || (b || (c || d)) ≡ true
         → given (ringRows ++ rest) s answer ≡ refused (numberBy a b c) u
-    by-fault true b c d p q v w o = given-first s answer [] highRow (itselfRow ∷ repeatedRow ∷ unreturnedRow ∷ rest) tt (rw (t, p) refl)
+    by-fault true b c d p q v w o = by-high p
     by-fault false true c d p q v w o =
         given-first s answer (highRow ∷ []) itselfRow (repeatedRow ∷ unreturnedRow ∷ rest) (rw (t, p) refl, tt) (rw (t, q) refl)
     by-fault false false true d p q v w o =

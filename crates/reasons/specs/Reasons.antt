@@ -63,4 +63,4 @@ reasonOf n r =
 
 -- no reason is longer than this, whatever the numbers
 abbrev pub longestReason : ℕ
-longestReason = 242
+longestReason = 243

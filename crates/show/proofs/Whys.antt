@@ -1,5 +1,5 @@
 -- Which line `why` prints, and how long it is.
-use Prim.Native.Nat.{ℕ, _*_, _-_, _≤_, _<_}
+use Prim.Native.Nat.{ℕ, _+_, _*_, _-_, _≤_, _<_}
 use mathlib.Core.Path.{_≡_, refl, sym, _∙_}
 use mathlib.Core.List.{List, _++_}
 use mathlib.Core.Option.{Option, none, some}
@@ -58,7 +58,7 @@ for-length : (n : ℕ) (r : Option Refusal) → length (reasonFor n r) ≤ longe
 for-length n none = omega arith
 for-length n (some r) = reason-length n r
 
-refused-length : (n number place : ℕ) → length (refusedLine n number place) ≤ 294
+refused-length : (n number place : ℕ) → length (refusedLine n number place) ≤ longestReason + 52
 unfolding refusedLine refusalText
 refused-length n number place =
     let words = reasonFor n (refusalOf number place) in
@@ -68,7 +68,7 @@ refused-length n number place =
     let d = length-append (letters ": ") (words ++ newline) in
     omega (arith, a, b, c, d, length-append words newline, spaced-length number, spaced-length place, for-length n (refusalOf number place))
 
-accepted-length : (n : ℕ) → length (acceptedLine n) ≤ 294
+accepted-length : (n : ℕ) → length (acceptedLine n) ≤ longestReason + 52
 unfolding acceptedLine count
 accepted-length n =
     let board = numbered n (letters "accepted #: the board has # posts, and on its sheet x goes from 0 to ") in
