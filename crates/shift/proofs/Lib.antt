@@ -12,4 +12,5 @@ pub mod DrawnSays
 pub mod Tied
 pub mod Every
 pub mod Mirror
+pub mod Corners
 pub mod OnBoards

@@ -5,4 +5,5 @@ pub mod Calls
 pub mod Written
 pub mod Mirror
 pub mod Exact
+pub mod Size
 pub mod OneReply
