@@ -7,7 +7,7 @@ use native.Mathlib.Omega.{arith}
 use lib.ListN.{length, take}
 use Rattle.words.specs.Lists.{In, lastOf, Head, Adj}
 use Rattle.words.specs.Positions.{post}
-use Rattle.words.proofs.Lists.{Once, adj-cases, adj-turn, once-next, first-alone, last-alone, last-append, head-one}
+use Rattle.words.proofs.Lists.{Once, adj-turn, once-next, first-alone, last-alone, last-append, head-one, turn-closes}
 use Rattle.words.proofs.Tests.{different-once, once-different}
 use Rattle.rings.specs.Rings.{ring, around}
 use Rattle.rings.specs.Plane.{Plane}
@@ -57,12 +57,7 @@ module _ (F : ℕ → ℕ → ℕ → Type 0) (v1 v2 v : ℕ) (done : List ℕ) 
     (U : Run F done v p M q) (C : Contour F v1 v2 done (X ++ p ∷ (M ++ q ∷ Y)))
     (cut : ¬ (Adj (p ∷ (M ++ q ∷ [])) v2 v1)) (f : F v v2 v1) (i1 : In v1 done) (i2 : In v2 done) where
   ends : (q ≡ v2) × (p ≡ v1)
-  ends = adj-cases v2 v1 (p ∷ M) q (p ∷ []) (λ h. absurd (cut h)) closing (U .inner v2 v1 f i2 i1)
-    where
-      closing : Adj (q ∷ p ∷ []) v2 v1 → (q ≡ v2) × (p ≡ v1)
-      closing (inl e) = e
-      closing (inr (inl e)) = absurd (e .1)
-      closing (inr (inr j)) = absurd j
+  ends = let t = turn-closes p M q v2 v1 cut (U .inner v2 v1 f i2 i1) in (t .1, t .0)
 
   pub last-contour : X ++ p ∷ v ∷ q ∷ Y ≡ v1 ∷ v ∷ v2 ∷ []
   last-contour = go X Y no-X no-Y (ends .1) (ends .0)

@@ -1,14 +1,13 @@
 -- The corners of a drawing: at every stage v1 and v2 stand at the two ends of the bottom, and vn, which comes last, at the top between them.
 use Prim.Native.Nat.{ℕ, _+_, _*_, _-_, _≤_, _<_}
 use mathlib.Core.Path.{_≡_, refl, ap, _∙_, subst}
-use mathlib.Core.Logic.{inl, inr}
-use mathlib.Core.List.{List, [], _∷_, _++_}
+use mathlib.Core.List.{List}
 use native.Mathlib.Omega.{arith}
 use native.Mathlib.Decide.{decLt}
 use lib.ListN.{length, take}
-use Rattle.words.specs.Lists.{In, Adj}
+use Rattle.words.specs.Lists.{In}
 use Rattle.words.specs.Positions.{post}
-use Rattle.words.proofs.Lists.{adj-cases}
+use Rattle.words.proofs.Lists.{turn-closes}
 use Rattle.words.proofs.Positions.{take-in}
 use Rattle.words.proofs.Tests.{eqb-same}
 use Rattle.rings.specs.Plane.{Plane}
@@ -18,11 +17,6 @@ use Rattle.order.proofs.Fitting.{fits-faces, fits-outer}
 use Rattle.placing.specs.Stages.{Stage, third, stage}
 use Rattle.placing.proofs.Steps.{stage-third, stage-first, stage-second}
 use Rattle.shift.proofs.Every.{Advance, placed-at, low-at, within-at, left-at, right-at, one-step-at}
-
--- side by side in the closed turn of a run, but not in the run: they are its ends
-turn-closes : (p : ℕ) (M : List ℕ) (q a b : ℕ) → ¬ (Adj (p ∷ (M ++ q ∷ [])) a b) → Adj (p ∷ (M ++ q ∷ p ∷ [])) a b → (p ≡ b) × (q ≡ a)
-turn-closes p M q a b cut =
-    adj-cases a b (p ∷ M) q (p ∷ []) (λ i. absurd (cut i)) (elim [ inl e ↦ (e .1, e .0) | inr i ↦ absurd (elim i [ inl e ↦ e .1 | inr z ↦ z ]) ])
 
 module _ (G : List (List ℕ)) (vn : ℕ) (vs : List ℕ) (P : Plane G (post vs 1) (post vs 2) vn) (A : FitsSoFar G vn vs) where
   -- v1 and v2 stand at the bottom: a post is no higher than its column, and both together are at most 2k - 4

@@ -97,6 +97,11 @@ module _ (a b : ℕ) where
   once-next (x ∷ X) Z o (inl h) = absurd (o .0 (rw (h .0) (in-right a X (a ∷ Z) (inl refl))))
   once-next (x ∷ X) Z o (inr h) = once-next X Z (o .1) h
 
+-- side by side in the closed turn of a run, but not in the run: they are its ends
+pub turn-closes : (p : ℕ) (M : List ℕ) (q a b : ℕ) → ¬ (Adj (p ∷ (M ++ q ∷ [])) a b) → Adj (p ∷ (M ++ q ∷ p ∷ [])) a b → (p ≡ b) × (q ≡ a)
+turn-closes p M q a b cut =
+    adj-cases a b (p ∷ M) q (p ∷ []) (λ i. absurd (cut i)) (elim [ inl e ↦ (e .1, e .0) | inr i ↦ absurd (elim i [ inl e ↦ e .1 | inr z ↦ z ]) ])
+
 -- a list whose neighbours are neighbours in W, where nobody stands twice, is a stretch of W
 pub stretch : (W : List ℕ) → Once W → (M X : List ℕ) (p : ℕ) (Z : List ℕ) → W ≡ X ++ p ∷ Z → ((a b : ℕ) → Adj (p ∷ M) a b → Adj W a b)
     → (Y : List ℕ) × (Z ≡ M ++ Y)
