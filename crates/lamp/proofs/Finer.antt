@@ -1,26 +1,28 @@
 -- With 9 for 18 to 20, the replies by the four rows of step 9 are those by one row: the same blocks are accepted, and refused at the same place.
-use Prim.Native.Nat.{ℕ, zero, suc, _-_}
+use Prim.Native.Nat.{ℕ, _≤_, _<_}
 use mathlib.Core.Path.{_≡_, refl, sym, ap, _∙_}
+use mathlib.Core.Logic.{_≢_}
 use mathlib.Core.Bool.{Bool, true, false}
-use mathlib.Core.List.{List, [], _∷_, _++_, flatMap, append-nil}
-use Rattle.words.specs.First.{numbers}
-use Rattle.block.specs.Block.{posts, lists}
+use mathlib.Core.List.{List, [], _∷_, _++_, append-nil}
+use native.Mathlib.Omega.{arith}
+use borrow.Author.Tests.{lt-leb}
+use Rattle.block.specs.Block.{lists}
 use Rattle.rings.specs.Faults.{isHigh, isItself, isRepeated}
 use Rattle.lamp.specs.Lamp.{Row, name, someName, ringFault, ringRows}
-use Rattle.lamp.specs.Lamp.{positionRows, stageRows, roomRows, nameRows, blockRows, checkRows, sheetRows, postRows}
+use Rattle.lamp.specs.Lamp.{stageRows, roomRows, nameRows, blockRows, checkRows, sheetRows, postRows}
 use Rattle.lamp.specs.Given.{refused, given}
+use Rattle.lamp.specs.Retired.{EachNumber}
 use Rattle.lamp.specs.Finer.{wholeRow, wholeRows, coarseRows, coarseNumber, coarse, Finer}
 use Rattle.lamp.proofs.Given.{given-end, given-skip, given-stop, given-past}
+use Rattle.lamp.proofs.RowNumbers.{each-both, each-before, each-after}
 use Rattle.lamp.proofs.RingRows.{beforeRings, afterRings, u, i, numberBy, exactly, rings-none, ring-given}
 
 -- rows whose numbers stay
 abbrev Kept : List Row → Type 0
-Kept [] = Unit {0}
-Kept (r ∷ rows) = (coarseNumber (r .number) ≡ r .number) × Kept rows
+Kept rows = EachNumber (λ m. coarseNumber m ≡ m) rows
 
-kept-both : (a b : List Row) → Kept a → Kept b → Kept (a ++ b)
-kept-both [] b h k = k
-kept-both (r ∷ a) b h k = (h .0, kept-both a b (h .1) k)
+stays : (m : ℕ) → m < 18 → coarseNumber m ≡ m
+stays m h = rw (lt-leb 18 m h) refl
 
 module _ {A : Type 0} (s : List ℕ) (answer : List ℕ → A) where
   -- such rows, and then rests of which the one gives the other's reply
@@ -62,16 +64,8 @@ module _ {A : Type 0} (s : List ℕ) (answer : List ℕ → A) where
 
 -- ---- the rows of the services
 
-before-kept : Kept beforeRings
-before-kept = (refl, (refl, (refl, (refl, (refl, (refl, (refl, (refl, tt))))))))
-
-fitting-kept : (m k : ℕ) → Kept (flatMap positionRows (numbers k m))
-unfolding flatMap numbers positionRows
-fitting-kept zero k = tt
-fitting-kept (suc m) k = (refl, (refl, fitting-kept m (suc k)))
-
-after-kept : (s : List ℕ) → Kept (afterRings s)
-after-kept s = (refl, (refl, fitting-kept (posts s - 2) 3))
+low : (m : ℕ) → 1 ≤ m → m ≤ 13 → m ≢ 9 → coarseNumber m ≡ m
+low m l h n = stays m (omega arith)
 
 -- check's rows, and after them any whose numbers stay
 finer : {A : Type 0} (answer : List ℕ → A) (s : List ℕ) (after : List Row) → Kept after
@@ -79,8 +73,8 @@ finer : {A : Type 0} (answer : List ℕ → A) (s : List ℕ) (after : List Row)
 unfolding checkRows blockRows coarseRows
 finer answer s after h =
     let rest = afterRings s ++ after in
-    coarse-past s answer beforeRings (ringRows ++ rest) (wholeRows ++ rest) before-kept
-    (coarse-rings s answer rest (kept-both (afterRings s) after (after-kept s) h))
+    coarse-past s answer beforeRings (ringRows ++ rest) (wholeRows ++ rest) (each-before _ low)
+    (coarse-rings s answer rest (each-both _ (afterRings s) after (each-after _ low s) h))
 
 finer-check : {A : Type 0} (answer : List ℕ → A) (s : List ℕ) → coarse (given (checkRows s) s answer) ≡ given (coarseRows s) s answer
 finer-check answer s =

@@ -1,14 +1,12 @@
 -- A refusal of step 9 tells the first wrong entry of the lowest list that has one, and only one number and name do.
-use Prim.Native.Nat.{ℕ, zero, suc, _-_, _<_}
+use Prim.Native.Nat.{ℕ, _≤_, _<_}
 use mathlib.Core.Path.{_≡_, refl, sym, ap, _∙_, subst}
-use mathlib.Core.Logic.{_≢_}
+use mathlib.Core.Logic.{inl, inr, _≢_}
 use mathlib.Core.Bool.{Bool, true, false, _||_, true≢false}
-use mathlib.Core.List.{List, [], _∷_, _++_, flatMap, append-nil}
+use mathlib.Core.List.{List, [], _++_, append-nil}
 use native.Mathlib.Omega.{arith}
-use native.Mathlib.Decide.{decLt}
 use lib.ListN.{length, take}
 use borrow.Author.Tests.{leb-true, leb-false, eqb-true, eqb-false, not-true, not-false}
-use Rattle.words.specs.First.{numbers}
 use Rattle.words.specs.Lists.{In, mem}
 use Rattle.words.proofs.First.{first-is}
 use Rattle.words.proofs.Tests.{holds, neither, mem-in, mem-true}
@@ -17,13 +15,13 @@ use Rattle.block.specs.Block.{posts, lists}
 use Rattle.rings.specs.Rings.{ring, ringRule}
 use Rattle.rings.specs.Faults.{entry, isHigh, isItself, isRepeated, isUnreturned, isBad, firstBad}
 use Rattle.rings.proofs.Faults.{rule-fine, broken-bad}
-use Rattle.lamp.specs.Lamp.{Row, name, someName, ringFault, headerRows, sumRows, orderRows, degreeRows, ringRows}
-use Rattle.lamp.specs.Lamp.{positionRows, stageRows, roomRows, nameRows, blockRows, checkRows, sheetRows, postRows}
+use Rattle.lamp.specs.Lamp.{Row, name, someName, ringFault, ringRows}
+use Rattle.lamp.specs.Lamp.{stageRows, roomRows, nameRows, blockRows, checkRows, sheetRows, postRows}
 use Rattle.lamp.specs.Given.{refused, given}
 use Rattle.lamp.specs.Retired.{NoneIs}
 use Rattle.lamp.specs.FirstWrong.{Wrong, high, itself, repeated, unreturned, Right, FirstWrong, listNumbers, ToldRight}
-use Rattle.lamp.proofs.Given.{given-skip, given-stop, given-past}
-use Rattle.lamp.proofs.Retired.{none-given, is-both}
+use Rattle.lamp.proofs.Given.{given-past}
+use Rattle.lamp.proofs.RowNumbers.{each-both, each-before, each-after, past-others, none-given}
 use Rattle.lamp.proofs.RingRows.{beforeRings, afterRings, numberBy, rings-none, ring-given, lowest-broken}
 
 -- ---- what the four tests say of an entry
@@ -146,16 +144,6 @@ module _ (s : List ℕ) (t : someName ringFault s ≡ true) where
 
 -- ---- only rows of step 9 give its numbers
 module _ {A : Type 0} (s : List ℕ) (answer : List ℕ → A) (number place : ℕ) where
-  past-others : (rows rest : List Row) → NoneIs number rows → given (rows ++ rest) s answer ≡ refused number place
-      → given rest s answer ≡ refused number place
-  past-others [] rest h e = e
-  past-others (r ∷ rows) rest h e = go (r .when s) refl (past-others rows rest (h .1))
-    where
-      go : (x : Bool) → r .when s ≡ x → (given (rows ++ rest) s answer ≡ refused number place → given rest s answer ≡ refused number place)
-          → given rest s answer ≡ refused number place
-      go true w k = absurd (let f = sym (given-stop s answer r (rows ++ rest) w) ∙ e in let q : r .number ≡ number = cc in h .0 q)
-      go false w k = k (sym (given-skip s answer r (rows ++ rest) w) ∙ e)
-
   by-rings : (rest : List Row) → NoneIs number rest → given (ringRows ++ rest) s answer ≡ refused number place → FirstWrong (lists s) place number
   by-rings rest h e = go (someName ringFault s) refl
     where
@@ -172,23 +160,17 @@ module _ {A : Type 0} (s : List ℕ) (answer : List ℕ → A) (number place : �
       go false t = absurd (none-given answer s rest number place h (sym (given-past s answer ringRows rest (rings-none s t)) ∙ e))
 
 module _ (number : ℕ) (h : In number listNumbers) where
-  other : (m : ℕ) → mem listNumbers m ≡ false → m ≢ number
-  other m e q = true≢false (sym (mem-true listNumbers m (subst (λ (a : ℕ). In a listNumbers) (sym q) h)) ∙ e)
+  other : (m : ℕ) → m < 18 → m ≢ 9 → m ≢ number
+  other m l n q = go h
+    where
+      go : In number listNumbers → ⊥
+      go (inl e) = n (q ∙ e)
+      go (inr (inl e)) = omega arith
+      go (inr (inr (inl e))) = omega arith
+      go (inr (inr (inr (inl e)))) = omega arith
 
-  before-others : NoneIs number beforeRings
-  unfolding mem
-  before-others =
-      let five : NoneIs number headerRows = (other _ refl, (other _ refl, (other _ refl, (other _ refl, (other _ refl, tt))))) in
-      is-both number headerRows (sumRows ++ orderRows ++ degreeRows) five (other _ refl, (other _ refl, (other _ refl, tt)))
-
-  fitting-others : (m k : ℕ) → NoneIs number (flatMap positionRows (numbers k m))
-  unfolding flatMap numbers positionRows mem
-  fitting-others zero k = tt
-  fitting-others (suc m) k = (other _ refl, (other _ refl, fitting-others m (suc k)))
-
-  after-others : (s : List ℕ) → NoneIs number (afterRings s)
-  unfolding mem
-  after-others s = (other _ refl, (other _ refl, fitting-others (posts s - 2) 3))
+  low : (m : ℕ) → 1 ≤ m → m ≤ 13 → m ≢ 9 → m ≢ number
+  low m l k n = other m (omega arith) n
 
   -- check's rows, and after them any with other numbers
   told-wrong : {A : Type 0} (answer : List ℕ → A) (s : List ℕ) (place : ℕ) (after : List Row) → NoneIs number after
@@ -196,8 +178,8 @@ module _ (number : ℕ) (h : In number listNumbers) where
   unfolding checkRows blockRows
   told-wrong answer s place after k e =
       let rest = afterRings s ++ after in
-      by-rings s answer number place rest (is-both number (afterRings s) after (after-others s) k)
-      (past-others s answer number place beforeRings (ringRows ++ rest) before-others e)
+      by-rings s answer number place rest (each-both _ (afterRings s) after (each-after _ low s) k)
+      (past-others answer s beforeRings (ringRows ++ rest) number place (each-before _ low) e)
 
   told-check : {A : Type 0} (answer : List ℕ → A) (s : List ℕ) (place : ℕ) → given (checkRows s) s answer ≡ refused number place
       → FirstWrong (lists s) place number
@@ -205,22 +187,17 @@ module _ (number : ℕ) (h : In number listNumbers) where
 
   told-sheet : {A : Type 0} (answer : List ℕ → A) (s : List ℕ) (k room place : ℕ) → given (sheetRows s k room) s answer ≡ refused number place
       → FirstWrong (lists s) place number
-  unfolding sheetRows mem
-  told-sheet answer s k room place e = told-wrong answer s place (stageRows k ++ roomRows k room) (other _ refl, (other _ refl, tt)) e
+  unfolding sheetRows
+  told-sheet answer s k room place e = told-wrong answer s place (stageRows k ++ roomRows k room) (other _ (omega arith) (λ z. omega arith), (other _ (omega arith) (λ z. omega arith), tt)) e
 
   told-post : {A : Type 0} (answer : List ℕ → A) (s : List ℕ) (k u place : ℕ) → given (postRows s k u) s answer ≡ refused number place
       → FirstWrong (lists s) place number
-  unfolding postRows mem
-  told-post answer s k u place e = told-wrong answer s place (stageRows k ++ nameRows u) (other _ refl, (other _ refl, tt)) e
+  unfolding postRows
+  told-post answer s k u place e = told-wrong answer s place (stageRows k ++ nameRows u) (other _ (omega arith) (λ z. omega arith), (other _ (omega arith) (λ z. omega arith), tt)) e
 
 -- ---- one name and one number
 equal : (a b : ℕ) → ¬ (a < b) → ¬ (b < a) → a ≡ b
-equal a b x y = go (decLt a b) (decLt b a)
-  where
-    go : Dec (a < b) → Dec (b < a) → a ≡ b
-    go (yes h) d = absurd (x h)
-    go (no n) (yes h) = absurd (y h)
-    go (no n) (no k) = omega arith
+equal a b x y = omega arith
 
 module _ (G : List (List ℕ)) where
   not-lower : (u v m number : ℕ) → FirstWrong G u m → FirstWrong G v number → ¬ (u < v)

@@ -3,6 +3,7 @@ pub mod Tried
 pub mod Heads
 pub mod Loads
 pub mod RingRows
+pub mod RowNumbers
 pub mod BoardRows
 pub mod Accepts
 pub mod Retired

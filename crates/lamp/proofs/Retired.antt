@@ -23,24 +23,14 @@ use Rattle.lamp.specs.declared.Refusal.{Refusal}
 use Rattle.lamp.specs.declared.Refusal.the-variants.{Short, Mark, Version, Posts, Length, Sum, Order, Degrees, High, Itself}
 use Rattle.lamp.specs.declared.Refusal.the-variants.{Repeated, Unreturned, Triangle, Outer, Few, Broken, Stage, Room, Name}
 use Rattle.lamp.specs.Retired.{retired, retiredRow, paperPositionRows, paperFittingRows, paperRows, NoneIs, Retirement}
-use Rattle.lamp.proofs.Given.{given-end, given-skip, given-stop, given-alike, given-none, given-says, not-both}
+use Rattle.lamp.proofs.Given.{given-skip, given-alike, given-none, given-says}
 use Rattle.lamp.proofs.Accepts.{lists-count, none-boarded, none-position}
-
--- ---- a reply's number is that of a row
-pub none-given : {A : Type 0} (answer : List ℕ → A) (s : List ℕ) (rows : List Row) (number place : ℕ) → NoneIs number rows
-    → given rows s answer ≢ refused number place
-none-given answer s [] number place h e = not-both (sym e ∙ given-end s answer)
-none-given answer s (r ∷ rows) number place h e = go (r .when s) refl (none-given answer s rows number place (h .1))
-  where
-    go : (b : Bool) → r .when s ≡ b → given rows s answer ≢ refused number place → ⊥
-    go true w k = let f = sym (given-stop s answer r rows w) ∙ e in let q : r .number ≡ number = cc in h .0 q
-    go false w k = k (sym (given-skip s answer r rows w) ∙ e)
-
-pub is-both : (number : ℕ) (a b : List Row) → NoneIs number a → NoneIs number b → NoneIs number (a ++ b)
-is-both number [] b h k = k
-is-both number (r ∷ a) b h k = (h .0, is-both number a b (h .1) k)
+use Rattle.lamp.proofs.RowNumbers.{each-both, each-fitting, none-given}
 
 -- ---- no row has the number: by computing
+abbrev Another : ℕ → Type 0
+Another m = m ≢ retired
+
 mem-none : (number : ℕ) (rows : List Row) → mem (map (λ r. r .number) rows) number ≡ false → NoneIs number rows
 unfolding mem
 mem-none number [] e = tt
@@ -52,26 +42,22 @@ block-rows : NoneIs retired blockRows
 unfolding blockRows mem
 block-rows = mem-none retired blockRows refl
 
-fitting-rows : (m k : ℕ) → NoneIs retired (flatMap positionRows (numbers k m))
-unfolding flatMap numbers positionRows
-fitting-rows zero k = tt
-fitting-rows (suc m) k = ((λ e. omega arith), ((λ e. omega arith), fitting-rows m (suc k)))
-
 check-rows : (s : List ℕ) → NoneIs retired (checkRows s)
 unfolding checkRows
-check-rows s = is-both retired blockRows (fittingRows s) block-rows (fitting-rows (posts s - 2) 3)
+check-rows s =
+    each-both Another blockRows (fittingRows s) block-rows (each-fitting Another (λ e. omega arith) (λ e. omega arith) (posts s - 2) 3)
 
 sheet-rows : (s : List ℕ) (k room : ℕ) → NoneIs retired (sheetRows s k room)
 unfolding sheetRows
 sheet-rows s k room =
-    is-both retired (checkRows s) (stageRows k ++ roomRows k room) (check-rows s)
-    (is-both retired (stageRows k) (roomRows k room) ((λ e. omega arith), tt) ((λ e. omega arith), tt))
+    each-both Another (checkRows s) (stageRows k ++ roomRows k room) (check-rows s)
+    (each-both Another (stageRows k) (roomRows k room) ((λ e. omega arith), tt) ((λ e. omega arith), tt))
 
 post-rows : (s : List ℕ) (k u : ℕ) → NoneIs retired (postRows s k u)
 unfolding postRows
 post-rows s k u =
-    is-both retired (checkRows s) (stageRows k ++ nameRows u) (check-rows s)
-    (is-both retired (stageRows k) (nameRows u) ((λ e. omega arith), tt) ((λ e. omega arith), tt))
+    each-both Another (checkRows s) (stageRows k ++ nameRows u) (check-rows s)
+    (each-both Another (stageRows k) (nameRows u) ((λ e. omega arith), tt) ((λ e. omega arith), tt))
 
 refusals : (r : Refusal) → numberOf r ≢ retired
 refusals Short e = omega arith
@@ -179,7 +165,7 @@ pub retirement : Retirement
 retirement =
     record {
       check = λ answer s place e.
-          none-given answer s (checkRows s ++ []) retired place (is-both retired (checkRows s) [] (check-rows s) tt)
+          none-given answer s (checkRows s ++ []) retired place (each-both Another (checkRows s) [] (check-rows s) tt)
           (sym (same answer [] s) ∙ ap (λ (l : List Row). given l s answer) (append-nil (paperRows s)) ∙ e);
       sheet = λ answer s k room place e. sheet-never answer s k room place (sym (same answer (stageRows k ++ roomRows k room) s) ∙ e);
       post = λ answer s k u place e. post-never answer s k u place (sym (same answer (stageRows k ++ nameRows u) s) ∙ e);

@@ -32,10 +32,13 @@ paperFittingRows s = flatMap paperPositionRows (numbers 3 (posts s - 2))
 unfoldable pub paperRows : List ℕ → List Row
 paperRows s = blockRows ++ paperFittingRows s
 
--- no row of these has the number
+-- the number of each of these rows is so; no row of these has the number
+abbrev pub EachNumber : (ℕ → Type 0) → List Row → Type 0
+EachNumber P [] = Unit {0}
+EachNumber P (r ∷ rows) = P (r .number) × EachNumber P rows
+
 abbrev pub NoneIs : ℕ → List Row → Type 0
-NoneIs number [] = Unit {0}
-NoneIs number (r ∷ rows) = (r .number ≢ number) × NoneIs number rows
+NoneIs number rows = EachNumber (λ m. m ≢ number) rows
 
 pub record Retirement : Type 1 where
   -- No list of bytes is answered 14 by the table that has the row: not by check, nor by sheet and post, whose rows follow, whatever they answer otherwise.

@@ -57,12 +57,10 @@ module _ (G : List (List ℕ)) (u : ℕ) where
       true≢false (sym m ∙ new j h)
 
   different : ((i : ℕ) → i < length l → mem (take i l) (entry G u i) ≡ false) → Different l
-  different new i j hi hj e = go (decLt i j) (decLt j i)
-    where
-      go : Dec (i < j) → Dec (j < i) → i ≡ j
-      go (yes k) d = absurd (apart new i j hj k e)
-      go (no n) (yes k) = absurd (apart new j i hi k (sym e))
-      go (no n) (no m) = omega arith
+  different new i j hi hj e =
+      let x : ¬ (i < j) = λ k. apart new i j hj k e in
+      let y : ¬ (j < i) = λ k. apart new j i hi k (sym e) in
+      omega arith
 
   pub fine-rule : ((i : ℕ) → i < length l → isBad G u i ≡ false) → ringRule G u ≡ true
   fine-rule f =
