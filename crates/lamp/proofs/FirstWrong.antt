@@ -188,12 +188,16 @@ module _ (number : ℕ) (h : In number listNumbers) where
   told-sheet : {A : Type 0} (answer : List ℕ → A) (s : List ℕ) (k room place : ℕ) → given (sheetRows s k room) s answer ≡ refused number place
       → FirstWrong (lists s) place number
   unfolding sheetRows
-  told-sheet answer s k room place e = told-wrong answer s place (stageRows k ++ roomRows k room) (other _ (omega arith) (λ z. omega arith), (other _ (omega arith) (λ z. omega arith), tt)) e
+  told-sheet answer s k room place e =
+      let own : NoneIs number (stageRows k ++ roomRows k room) = (other _ (omega arith) (λ z. omega arith), (other _ (omega arith) (λ z. omega arith), tt)) in
+      told-wrong answer s place (stageRows k ++ roomRows k room) own e
 
   told-post : {A : Type 0} (answer : List ℕ → A) (s : List ℕ) (k u place : ℕ) → given (postRows s k u) s answer ≡ refused number place
       → FirstWrong (lists s) place number
   unfolding postRows
-  told-post answer s k u place e = told-wrong answer s place (stageRows k ++ nameRows u) (other _ (omega arith) (λ z. omega arith), (other _ (omega arith) (λ z. omega arith), tt)) e
+  told-post answer s k u place e =
+      let own : NoneIs number (stageRows k ++ nameRows u) = (other _ (omega arith) (λ z. omega arith), (other _ (omega arith) (λ z. omega arith), tt)) in
+      told-wrong answer s place (stageRows k ++ nameRows u) own e
 
 -- ---- one name and one number
 equal : (a b : ℕ) → ¬ (a < b) → ¬ (b < a) → a ≡ b

@@ -43,7 +43,8 @@ fn line(t: &[u8], k: usize, x: u16, out: &mut [u8], at: usize) -> usize
     end
 }
 
-// The words, a line for each number: # stands for the place, in number 4 for the limit. Line 0 is for number 8 where the place is the number of posts; 14 is retired.
+// The words, a line for each number: # stands for the place, in number 4 for the limit. Line 0 is for number 8 where the place is the number of
+// posts; 14 is retired.
 fn words_of(k: usize, x: u16, out: &mut [u8], at: usize) -> usize
     ensures { λ e. ⌜ filling e (now (out .exit)) ≡ write (filling at (now (out .entry))) (numbered x (lineAt k table)) ⌝ }
 {
