@@ -1,5 +1,5 @@
 -- What the engine takes: plane rings and a list of posts that fits so far, as running code holds them.
-use Prim.Native.Nat.{ℕ, _≤_}
+use Prim.Native.Nat.{ℕ, _+_, _≤_}
 use mathlib.Core.List.{List}
 use lib.ListN.{length}
 use Rattle.words.specs.Positions.{post}
@@ -7,10 +7,11 @@ use Rattle.block.specs.Layout.{limit}
 use Rattle.rings.specs.Plane.{Plane}
 use Rattle.rings.specs.Held.{held, Cuts}
 use Rattle.order.specs.Fitting.{FitsSoFar}
-use Rattle.order.specs.Ranked.{RankedBelow}
+use Rattle.order.specs.Ranked.{RankedBelow, RunsBefore}
 
--- all lists' entries, where each list begins, the list of posts, and the positions by name; an accepted block's order is such a list
-pub record Fitted (at ents vs rank : List ℕ) : Type 0 where
+-- all lists' entries, where each list begins, the list of posts, the positions by name, and where the run of each post begins in its ring and how
+-- long it is; an accepted block's order is such a list
+pub record Fitted (at ents vs rank begin long : List ℕ) : Type 0 where
   pub vn : ℕ
   pub plane : Plane (held at ents) (post vs 1) (post vs 2) vn
   pub fits : FitsSoFar (held at ents) vn vs
@@ -18,9 +19,12 @@ pub record Fitted (at ents vs rank : List ℕ) : Type 0 where
   pub three : 3 ≤ length vs
   pub most : length (held at ents) ≤ limit
   pub ranked : RankedBelow (length (held at ents)) vs rank
+  pub begins-room : length vs ≤ length begin
+  pub lengths-room : length vs ≤ length long
+  pub runs : RunsBefore (held at ents) vs begin long (length vs + 1)
 
 -- and one of its stages
-pub record Reachable (at ents vs rank : List ℕ) (k : ℕ) : Type 0 where
-  pub fitted : Fitted at ents vs rank
+pub record Reachable (at ents vs rank begin long : List ℕ) (k : ℕ) : Type 0 where
+  pub fitted : Fitted at ents vs rank begin long
   pub least : 3 ≤ k
   pub most : k ≤ length vs

@@ -5,9 +5,10 @@ use mathlib.Core.Bool.{Bool, true, not, cond, _&&_}
 use mathlib.Core.List.{List, [], _∷_}
 use lib.ListN.{length, getD}
 use Rattle.words.specs.Lists.{In, mem}
-use Rattle.words.specs.Positions.{post}
+use Rattle.words.specs.Positions.{post, earlier}
 use Rattle.rings.specs.Rings.{ringRule}
 use Rattle.rings.specs.Held.{held, Cuts}
+use Rattle.order.specs.Order.{twoPlaced, oneRun, runBegin, run}
 use Rattle.order.specs.declared.Fit.{Fit}
 use Rattle.order.specs.declared.Fit.the-variants.{Good, Few, Broken}
 
@@ -37,12 +38,17 @@ pub record Listed (at ents vs rank : List ℕ) : Type 0 where
   pub rings : (u : ℕ) → u < length (held at ents) → ringRule (held at ents) u ≡ true
   pub ranked : RankedBelow (length (held at ents)) vs rank
 
+-- where the run of the post in position k begins, and how long it is, stand in the k-th places of two lists, for positions from 3 to before m
+pub record RunsBefore (G : List (List ℕ)) (vs begin long : List ℕ) (m : ℕ) : Type 0 where
+  pub begins : (k : ℕ) → 3 ≤ k → k < m → getD begin (k - 1) 0 ≡ runBegin G (earlier vs k) (post vs k)
+  pub lasts : (k : ℕ) → 3 ≤ k → k < m → getD long (k - 1) 0 ≡ length (run G (earlier vs k) (post vs k))
+
 -- how often a placed entry stands right after one that is not placed
 unfoldable pub starts : List ℕ → List ℕ → ℕ
 starts placed [] = 0
 starts placed (x ∷ []) = 0
 starts placed (x ∷ y ∷ l) = cond (not (mem placed x) && mem placed y) 1 0 + starts placed (y ∷ l)
 
--- what 12 and 13 find in a position: two earlier neighbours? one run?
-abbrev pub fitOf : Bool → Bool → Fit
-fitOf two one = cond two (cond one Good Broken) Few
+-- what 12 and 13 find in v, the next post: where its run begins in its ring, and how long it is; or fewer than two placed neighbours; or not one run
+abbrev pub fitOf : List (List ℕ) → List ℕ → ℕ → Fit
+fitOf G placed v = cond (twoPlaced G placed v) (cond (oneRun G placed v) (Good (runBegin G placed v) (length (run G placed v))) Broken) Few

@@ -14,11 +14,14 @@ pub enum Standing {
     Covered(u16),
 }
 
-// A post's record at a stage.
+// A post's record at a stage. It was fitted between the ends of its run, its leftmost and its rightmost neighbour placed before it; v1, v2 and a
+// post that waits carry their own names there.
 pub struct Record {
     pub x: u16,
     pub y: u16,
     pub standing: Standing,
+    pub fit_left: u16,
+    pub fit_right: u16,
 }
 
 // The first 2k entries of the buffer become the sheet of stage k (R6); the others are not touched (R7).

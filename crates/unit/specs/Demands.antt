@@ -3,11 +3,9 @@ use Prim.Native.Nat.{ℕ, _+_, _*_, _-_, _≤_, _<_}
 use mathlib.Core.Path.{_≡_}
 use mathlib.Core.Logic.{_↔_}
 use mathlib.Core.List.{List, _++_}
-use lib.Dec.{eqb}
 use lib.ListN.{length, getD, take, drop}
-use Rattle.words.specs.First.{first}
 use Rattle.words.specs.Lists.{In}
-use Rattle.words.specs.Positions.{post}
+use Rattle.words.specs.Positions.{post, positionOf}
 use Rattle.block.specs.Block.{posts, order, lists, Framed}
 use Rattle.rings.specs.Plane.{Plane, Wire}
 use Rattle.order.specs.Canonical.{Canonical}
@@ -42,7 +40,7 @@ pub record Demand1 (U : Services) : Type 0 where
   -- accepted, or refused with number and place of the first row that applies (L1 to L4)
   pub check : (s : List ℕ) → Fixed (checkRows s) s (posts s) (U .check s)
   pub sheet : (s : List ℕ) (k : ℕ) (b : List ℕ) → Fixed (sheetRows s k (length b)) s (2 * k) (U .sheet s k b)
-  pub post : (s : List ℕ) (k u : ℕ) → Fixed (postRows s k u) s (recordOf (stageAt k s) u) (U .post s k u)
+  pub post : (s : List ℕ) (k u : ℕ) → Fixed (postRows s k u) s (recordOf (lists s) (stageAt k s) u) (U .post s k u)
   -- after a refusal the buffer is as it was lent (L5)
   pub unchanged : (s : List ℕ) (k : ℕ) (b : List ℕ) → Refused (U .sheet s k b) → U .buffer s k b ≡ b
 
@@ -58,7 +56,7 @@ pub record Demand2 (U : Services) : Type 0 where
   pub others : (s : List ℕ) → ¬ (Framed s × Sound s) → Refused (U .check s)
   -- a sheet has the places of the shift method (S4 to S8), and from entry 2k on what the buffer had (R7); a record has its post's place
   pub stands : (s : List ℕ) (k : ℕ) (b : List ℕ) → Accepted (U .sheet s k b) → U .buffer s k b ≡ entriesOf (stageAt k s) ++ drop (2 * k) b
-  pub recorded : (s : List ℕ) (k u : ℕ) → Accepted (U .post s k u) → U .post s k u ≡ accepted (recordOf (stageAt k s) u)
+  pub recorded : (s : List ℕ) (k u : ℕ) → Accepted (U .post s k u) → U .post s k u ≡ accepted (recordOf (lists s) (stageAt k s) u)
 
 -- ---- D3. No stage can short.
 
@@ -86,9 +84,6 @@ pub record Demand3 (U : Services) : Type 0 where
 -- ---- The same of the sheets that the class wires from.
 
 -- where a sheet's entries say that the posts stand: x then y of the post in position 1, then of that in position 2, and so on
-abbrev pub positionOf : List ℕ → ℕ → ℕ
-positionOf vs u = first 1 (length vs) (λ k. eqb (post vs k) u)
-
 abbrev pub onSheet : List ℕ → List ℕ → Places
 onSheet vs b = record { x = λ u. getD b (2 * (positionOf vs u - 1)) 0; y = λ u. getD b (2 * (positionOf vs u - 1) + 1) 0 }
 

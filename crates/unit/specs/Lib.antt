@@ -4,5 +4,6 @@ pub mod Demands
 pub mod Mirror
 pub mod Exact
 pub mod Size
+pub mod Between
 pub mod Promises
 pub mod Starred
