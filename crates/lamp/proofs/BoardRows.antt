@@ -1,7 +1,7 @@
 -- The rows over loaded lists, by what the code found; the rows of positions one after the other.
 use Prim.Native.Nat.{ℕ, suc, _+_, _-_, _≤_, _<_}
 use mathlib.Core.Path.{_≡_, refl, sym, ap, _∙_, subst⁻¹}
-use mathlib.Core.Bool.{Bool, true, false, not, cond}
+use mathlib.Core.Bool.{Bool, true, false, not, cond, true≢false}
 use mathlib.Core.List.{List, [], _∷_, _++_, flatMap}
 use native.Mathlib.Omega.{arith}
 use native.Mathlib.Numerals.{add-one}
@@ -15,7 +15,7 @@ use Rattle.rings.specs.Rings.{ringRule, triangleRule, outerRule}
 use Rattle.rings.specs.Found.{faultOf}
 use Rattle.rings.specs.Held.{held}
 use Rattle.rings.specs.declared.ListFault.{ListFault}
-use Rattle.order.specs.Order.{twoPlaced, oneRun}
+use Rattle.order.specs.Order.{twoPlaced, oneRun, runBegin, run}
 use Rattle.rings.proofs.Held.{held-length}
 use Rattle.order.specs.Ranked.{RankedBelow, Ranked, Listed, fitOf}
 use Rattle.order.specs.declared.Fit.{Fit}
@@ -34,9 +34,14 @@ use Rattle.lamp.proofs.RingRows.{none-rings, fault-reply}
 
 -- what the code answers for what the rule found in position k
 abbrev pub answerAt : ℕ → Fit → Answer
-answerAt k Fit.Good = Accepted k
+answerAt k (Fit.Good begin long) = Accepted k
 answerAt k Fit.Few = Refused (Few k)
 answerAt k Fit.Broken = Refused (Broken k)
+
+abbrev isGood : Fit → Bool
+isGood (Fit.Good begin long) = true
+isGood Fit.Few = false
+isGood Fit.Broken = false
 
 module _ (s vs at ents : List ℕ) (L : Trimmed s vs at ents) where
   n-is : length vs ≡ posts s
@@ -85,25 +90,38 @@ module _ (s vs at ents : List ℕ) (L : Trimmed s vs at ents) where
 
   -- ---- position k, by what the rule found there
 
-  module _ (k : ℕ) (f : Fit)
-      (ef : f ≡ fitOf (twoPlaced (held at ents) (earlier vs k) (post vs k)) (oneRun (held at ents) (earlier vs k) (post vs k))) where
+  module _ (k : ℕ) (f : Fit) (ef : f ≡ fitOf (held at ents) (earlier vs k) (post vs k)) where
     abbrev a : Bool
     a = twoPlaced (lists s) (earlier (order s) k) (post (order s) k)
 
     abbrev b : Bool
     b = oneRun (lists s) (earlier (order s) k) (post (order s) k)
 
-    f-is : f ≡ cond a (cond b Fit.Good Fit.Broken) Fit.Few
+    abbrev run-at : Fit
+    run-at = Fit.Good (runBegin (lists s) (earlier (order s) k) (post (order s) k)) (length (run (lists s) (earlier (order s) k) (post (order s) k)))
+
+    f-is : f ≡ cond a (cond b run-at Fit.Broken) Fit.Few
     f-is = rw (← (L .orders), ← (L .rings)) ef
 
     pub position-found : replyOf (answerAt k f) ≡ given (positionRows k) s (λ z. k)
     unfolding positionRows
     position-found = ap (λ (g : Fit). replyOf (answerAt k g)) f-is ∙ go a b refl refl
       where
-        go : (x y : Bool) → a ≡ x → b ≡ y → replyOf (answerAt k (cond x (cond y Fit.Good Fit.Broken) Fit.Few)) ≡ given (positionRows k) s (λ w. k)
+        go : (x y : Bool) → a ≡ x → b ≡ y → replyOf (answerAt k (cond x (cond y run-at Fit.Broken) Fit.Few)) ≡ given (positionRows k) s (λ w. k)
         go false y p q = sym (given-first s (λ w. k) [] (fewRow k) (brokenRow k ∷ []) tt (ap not p))
         go true false p q = sym (given-first s (λ w. k) (fewRow k ∷ []) (brokenRow k) [] (ap not p, tt) (ap not q))
         go true true p q = sym (given-none s (λ w. k) (fewRow k ∷ brokenRow k ∷ []) (ap not p, (ap not q, tt)))
+
+    -- so one run more is kept
+    pub position-kept : (begin long : ℕ) → f ≡ Fit.Good begin long
+        → (begin ≡ runBegin (lists s) (earlier (order s) k) (post (order s) k)) × (long ≡ length (run (lists s) (earlier (order s) k) (post (order s) k)))
+    position-kept begin long e = go a b (sym e ∙ f-is)
+      where
+        go : (x y : Bool) → Fit.Good begin long ≡ cond x (cond y run-at Fit.Broken) Fit.Few
+            → (begin ≡ runBegin (lists s) (earlier (order s) k) (post (order s) k)) × (long ≡ length (run (lists s) (earlier (order s) k) (post (order s) k)))
+        go true true q = (cc, cc)
+        go true false q = absurd (true≢false (ap isGood q))
+        go false y q = absurd (true≢false (ap isGood q))
 
   -- what the rule at a position asks
   many : length (held at ents) ≡ length vs

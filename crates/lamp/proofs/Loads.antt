@@ -1,6 +1,6 @@
 -- The order's and the degrees' rows, by what the code found; and the arrays that then hold the block.
 use Prim.Native.Nat.{ℕ, _+_, _≤_, _<_}
-use mathlib.Core.Path.{_≡_, refl, sym, ap, _∙_, subst⁻¹}
+use mathlib.Core.Path.{_≡_, refl, sym, ap, _∙_, subst, subst⁻¹}
 use mathlib.Core.Bool.{false}
 use mathlib.Core.List.{List, []}
 use native.Mathlib.Omega.{arith}
@@ -14,11 +14,11 @@ use Rattle.words.proofs.First.{first-is, some-none}
 use Rattle.words.proofs.Numbers.{words-length}
 use Rattle.words.proofs.Tests.{neither}
 use Rattle.block.specs.Layout.{limit, entries}
-use Rattle.block.specs.Block.{posts, order, degrees, badEntry, badDegree, Headed}
-use Rattle.order.specs.Ranked.{Ranked}
+use Rattle.block.specs.Block.{posts, order, degrees, lists, badEntry, badDegree, Headed}
+use Rattle.order.specs.Ranked.{Ranked, RunsBefore}
 use Rattle.lamp.specs.Lamp.{position, name, someName, entryFault, degreeFault, entryRow, degreeRow, orderRows, degreeRows}
 use Rattle.lamp.specs.Given.{replyOf, given, NoneApplies}
-use Rattle.lamp.specs.Loaded.{Loaded, Trimmed, Entered, Checked}
+use Rattle.lamp.specs.Loaded.{Loaded, Trimmed, Entered, Ordered, Checked}
 use Rattle.lamp.specs.declared.Refusal.the-variants.{Order, Degrees}
 use Rattle.lamp.specs.declared.Answer.the-variants.{Refused}
 use Rattle.lamp.proofs.Given.{given-first}
@@ -95,8 +95,16 @@ module _ (s : List ℕ) where
         places = length-take-le (n + 1) at (omega (arith, H .most)) ∙ ap (λ (m : ℕ). m + 1) (sym l);
       }
 
-  pub checked : (m n : ℕ) (vs at ents rank : List ℕ) → Headed s m → Loaded s m vs at ents → Ranked (order s) rank → n ≡ posts s
-      → Checked s n vs at ents rank
-  checked m n vs at ents rank H A R e =
+  pub ordered : (vs rank begin long : List ℕ) → length vs ≡ posts s → vs ≡ order s → Ranked vs rank
+      → RunsBefore (lists s) (order s) begin long (length vs + 1) → Ordered s rank begin long
+  ordered vs rank begin long l e R K =
+      record {
+        ranked = subst (λ (l : List ℕ). Ranked l rank) e R;
+        runs = subst (λ (m : ℕ). RunsBefore (lists s) (order s) begin long (m + 1)) l K;
+      }
+
+  pub checked : (m n : ℕ) (vs at ents rank begin long : List ℕ) → Headed s m → Loaded s m vs at ents → Ordered s rank begin long → n ≡ posts s
+      → Checked s n vs at ents rank begin long
+  checked m n vs at ents rank begin long H A R e =
       let q : n ≡ m = e ∙ sym (H .is) in
-      record { headed = subst⁻¹ (Headed s) q H; loaded = subst⁻¹ (λ (k : ℕ). Loaded s k vs at ents) q A; ranked = R }
+      record { headed = subst⁻¹ (Headed s) q H; loaded = subst⁻¹ (λ (k : ℕ). Loaded s k vs at ents) q A; ordered = R }

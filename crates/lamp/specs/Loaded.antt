@@ -1,4 +1,5 @@
--- How the services hold a block whose header is right: its order, its lists, and the positions by name, each at the front of a longer array.
+-- How the services hold a block whose header is right: its order, its lists, the positions by name, and the runs, each at the front of a longer
+-- array.
 use Prim.Native.Nat.{ℕ, _+_, _-_, _≤_, _<_}
 use mathlib.Core.Path.{_≡_}
 use mathlib.Core.Bool.{true, false}
@@ -10,7 +11,7 @@ use Rattle.block.specs.Block.{posts, order, lists, badEntry, Headed}
 use Rattle.rings.specs.Rings.{ringRule}
 use Rattle.rings.specs.Held.{held, Cuts}
 use Rattle.rings.specs.declared.ListFault.{ListFault}
-use Rattle.order.specs.Ranked.{Ranked}
+use Rattle.order.specs.Ranked.{Ranked, RunsBefore}
 use Rattle.lamp.specs.Lamp.{Row, orderRows, degreeRows, ringRows, triangleRows, outerRows, positionRows}
 use Rattle.lamp.specs.Given.{accepted, replyOf}
 use Rattle.lamp.specs.declared.Answer.{Answer}
@@ -45,6 +46,12 @@ pub record Wide (vs at ents : List ℕ) : Type 0 where
   pub places : limit + 1 ≤ length at
   pub all : entries limit ≤ length ents
 
+-- and for what is found of its order
+pub record WideOrder (rank begin long : List ℕ) : Type 0 where
+  pub names : limit ≤ length rank
+  pub begins : limit ≤ length begin
+  pub lengths : limit ≤ length long
+
 -- the arrays hold the block's order and lists
 pub record Loaded (s : List ℕ) (n : ℕ) (vs at ents : List ℕ) : Type 0 where
   pub orders : take n vs ≡ order s
@@ -68,18 +75,26 @@ pub record Ringed (s : List ℕ) : Type 0 where
   pub entries-fine : Entered s
   pub rings-fine : (u : ℕ) → u < posts s → ringRule (lists s) u ≡ true
 
--- a checked block's header, order, lists and positions
-pub record Checked (s : List ℕ) (n : ℕ) (vs at ents rank : List ℕ) : Type 0 where
+-- the positions by name, and the run of each position from 3 on: where it begins in its post's ring, and how long it is
+pub record Ordered (s rank begin long : List ℕ) : Type 0 where
+  pub ranked : Ranked (order s) rank
+  pub runs : RunsBefore (lists s) (order s) begin long (posts s + 1)
+
+-- a checked block's header, order, lists, positions and runs
+pub record Checked (s : List ℕ) (n : ℕ) (vs at ents rank begin long : List ℕ) : Type 0 where
   pub headed : Headed s n
   pub loaded : Loaded s n vs at ents
-  pub ranked : Ranked (order s) rank
+  pub ordered : Ordered s rank begin long
 
 -- what the arrays hold if the answer is an acceptance
 abbrev pub LoadedIf : Answer → List ℕ → ℕ → List ℕ → List ℕ → List ℕ → Type 0
 LoadedIf r s n vs at ents = (m : ℕ) → replyOf r ≡ accepted m → Loaded s n vs at ents
 
-abbrev pub RankedIf : Answer → List ℕ → List ℕ → Type 0
-RankedIf r s rank = (m : ℕ) → replyOf r ≡ accepted m → Ranked (order s) rank
+abbrev pub RunsIf : Answer → List ℕ → ℕ → List ℕ → List ℕ → Type 0
+RunsIf r s k begin long = (m : ℕ) → replyOf r ≡ accepted m → RunsBefore (lists s) (order s) begin long k
 
-abbrev pub CheckedIf : Answer → List ℕ → List ℕ → List ℕ → List ℕ → List ℕ → Type 0
-CheckedIf r s vs at ents rank = (n : ℕ) → replyOf r ≡ accepted n → Checked s n vs at ents rank
+abbrev pub OrderedIf : Answer → List ℕ → List ℕ → List ℕ → List ℕ → Type 0
+OrderedIf r s rank begin long = (m : ℕ) → replyOf r ≡ accepted m → Ordered s rank begin long
+
+abbrev pub CheckedIf : Answer → List ℕ → List ℕ → List ℕ → List ℕ → List ℕ → List ℕ → List ℕ → Type 0
+CheckedIf r s vs at ents rank begin long = (n : ℕ) → replyOf r ≡ accepted n → Checked s n vs at ents rank begin long

@@ -9,7 +9,7 @@ ghost use Rattle.block.specs.Block.{posts, order, degrees, Headed};
 ghost use Rattle.lamp.specs.Refusals.{numberOf, placeOf};
 ghost use Rattle.lamp.specs.Lamp.{orderRows, degreeRows};
 ghost use Rattle.lamp.specs.Given.{replyOf, given, checkReply};
-ghost use Rattle.lamp.specs.Loaded.{loadRows, loadedRows, Wide, Loaded, Trimmed, Entered, LoadedIf, RankedIf, CheckedIf};
+ghost use Rattle.lamp.specs.Loaded.{loadRows, loadedRows, Wide, WideOrder, Loaded, Trimmed, Entered, LoadedIf, OrderedIf, CheckedIf};
 
 mod frame;
 mod rules;
@@ -141,29 +141,48 @@ fn load(
     d
 }
 
-// The board and the rule per position, for arrays that hold the order and the lists; rank becomes the positions by name.
-fn order_and_board(s: &[u8], vs: &[u16], at: &[u16], ents: &[u16], rank: &mut [u16]) -> Answer
-    requires { ⌜ Trimmed (now s) (now vs) (now at) (now ents) × (limit ≤ length (now rank)) × Entered (now s) ⌝ }
-    ensures { λ r. ⌜ (replyOf r ≡ given (loadedRows (now (s .entry))) (now (s .entry)) posts) × RankedIf r (now (s .entry)) (now (rank .exit)) ⌝ }
+// The board and the rule per position, for arrays that hold the order and the lists; rank becomes the positions by name, begin and long the runs.
+fn order_and_board(
+    s: &[u8],
+    vs: &[u16],
+    at: &[u16],
+    ents: &[u16],
+    rank: &mut [u16],
+    begin: &mut [u16],
+    long: &mut [u16],
+) -> Answer
+    requires { ⌜ Trimmed (now s) (now vs) (now at) (now ents) × WideOrder (now rank) (now begin) (now long) × Entered (now s) ⌝ }
+    ensures { λ r. ⌜ (replyOf r ≡ given (loadedRows (now (s .entry))) (now (s .entry)) posts)
+        × OrderedIf r (now (s .entry)) (now (rank .exit)) (now (begin .exit)) (now (long .exit)) ⌝ }
 {
     let r = rules::board(s, vs, at, ents);
     let Answer::Accepted(_) = r else {
         return r;
     };
     order::ranks(vs, rank);
-    rules::fitting(s, vs, at, ents, rank)
+    rules::fitting(s, vs, at, ents, rank, begin, long)
 }
 
 // The same, for longer arrays.
-fn loaded(s: &[u8], b: Block, vs: &[u16], at: &[u16], ents: &[u16], rank: &mut [u16]) -> Answer
+fn loaded(
+    s: &[u8],
+    b: Block,
+    vs: &[u16],
+    at: &[u16],
+    ents: &[u16],
+    rank: &mut [u16],
+    begin: &mut [u16],
+    long: &mut [u16],
+) -> Answer
     requires { ⌜ Headed (now s) (b .n) × Wide (now vs) (now at) (now ents)
-        × Loaded (now s) (b .n) (now vs) (now at) (now ents) × Entered (now s) × (limit ≤ length (now rank)) ⌝ }
-    ensures { λ r. ⌜ (replyOf r ≡ given (loadedRows (now (s .entry))) (now (s .entry)) posts) × RankedIf r (now (s .entry)) (now (rank .exit)) ⌝ }
+        × Loaded (now s) (b .n) (now vs) (now at) (now ents) × Entered (now s) × WideOrder (now rank) (now begin) (now long) ⌝ }
+    ensures { λ r. ⌜ (replyOf r ≡ given (loadedRows (now (s .entry))) (now (s .entry)) posts)
+        × OrderedIf r (now (s .entry)) (now (rank .exit)) (now (begin .exit)) (now (long .exit)) ⌝ }
 {
     let n = b.n;
     let e = b.entries();
     let p = n + 1;
-    order_and_board(s, &vs[..n], &at[..p], &ents[..e], rank)
+    order_and_board(s, &vs[..n], &at[..p], &ents[..e], rank, begin, long)
 }
 
 // All that follows the header.
@@ -175,19 +194,22 @@ fn body(
     at: &mut [u16],
     ents: &mut [u16],
     rank: &mut [u16],
+    begin: &mut [u16],
+    long: &mut [u16],
 ) -> Answer
-    requires { ⌜ Headed (now s) (b .n) × Wide (now vs) (now at) (now ents) × (limit ≤ length (now ds)) × (limit ≤ length (now rank)) ⌝ }
+    requires { ⌜ Headed (now s) (b .n) × Wide (now vs) (now at) (now ents) × (limit ≤ length (now ds)) × WideOrder (now rank) (now begin) (now long) ⌝ }
     ensures { λ r. ⌜ (replyOf r ≡ given (loadRows ++ loadedRows (now (s .entry))) (now (s .entry)) posts)
-        × CheckedIf r (now (s .entry)) (now (vs .exit)) (now (at .exit)) (now (ents .exit)) (now (rank .exit)) ⌝ }
+        × CheckedIf r (now (s .entry)) (now (vs .exit)) (now (at .exit)) (now (ents .exit)) (now (rank .exit)) (now (begin .exit)) (now (long .exit)) ⌝ }
 {
     let l = load(s, b, vs, ds, at, ents);
     let Answer::Accepted(_) = l else {
         return l;
     };
-    loaded(s, b, vs, at, ents, rank)
+    loaded(s, b, vs, at, ents, rank, begin, long)
 }
 
-// check, with the arrays lent: after an acceptance they hold the order, the lists and the positions by name.
+// check, with the arrays lent: after an acceptance they hold the order, the lists, the positions by name, and by position where the run begins in
+// its post's ring and how long it is.
 pub fn check_into(
     s: &[u8],
     vs: &mut [u16],
@@ -195,10 +217,12 @@ pub fn check_into(
     at: &mut [u16],
     ents: &mut [u16],
     rank: &mut [u16],
+    begin: &mut [u16],
+    long: &mut [u16],
 ) -> Answer
-    requires { ⌜ Wide (now vs) (now at) (now ents) × (limit ≤ length (now ds)) × (limit ≤ length (now rank)) ⌝ }
+    requires { ⌜ Wide (now vs) (now at) (now ents) × (limit ≤ length (now ds)) × WideOrder (now rank) (now begin) (now long) ⌝ }
     ensures { λ r. ⌜ (replyOf r ≡ checkReply (now (s .entry)))
-        × CheckedIf r (now (s .entry)) (now (vs .exit)) (now (at .exit)) (now (ents .exit)) (now (rank .exit)) ⌝ }
+        × CheckedIf r (now (s .entry)) (now (vs .exit)) (now (at .exit)) (now (ents .exit)) (now (rank .exit)) (now (begin .exit)) (now (long .exit)) ⌝ }
 {
     let h = frame::header(s);
     let Answer::Accepted(posts) = h else {
@@ -207,5 +231,5 @@ pub fn check_into(
     let b = Block {
         n: words::number(posts),
     };
-    body(s, b, vs, ds, at, ents, rank)
+    body(s, b, vs, ds, at, ents, rank, begin, long)
 }

@@ -1,12 +1,12 @@
 // The groups of rows over loaded lists: rings, triangles, the outer triangle, and the rule per position.
 ghost use mathlib.Core.Path.{_≡_};
-ghost use Prim.Native.Nat.{_≤_};
+ghost use Prim.Native.Nat.{_+_, _≤_};
 ghost use lib.ListN.{length};
-ghost use Rattle.block.specs.Block.{posts};
-ghost use Rattle.order.specs.Ranked.{Ranked};
+ghost use Rattle.block.specs.Block.{posts, order, lists};
+ghost use Rattle.order.specs.Ranked.{Ranked, RunsBefore};
 ghost use Rattle.lamp.specs.Lamp.{ringRows, triangleRows, outerRows, positionRows};
 ghost use Rattle.lamp.specs.Given.{replyOf, given};
-ghost use Rattle.lamp.specs.Loaded.{boardRows, rowsFrom, Trimmed, Ringed};
+ghost use Rattle.lamp.specs.Loaded.{boardRows, rowsFrom, WideOrder, Trimmed, Ringed, RunsIf};
 use crate::Answer;
 use crate::Refusal;
 use order::Fit;
@@ -68,28 +68,52 @@ pub fn board(s: &[u8], vs: &[u16], at: &[u16], ents: &[u16]) -> Answer
     outer_of(s, vs, at, ents)
 }
 
-// The rule at position k, which is answered where none applies.
-fn position(s: &[u8], vs: &[u16], at: &[u16], ents: &[u16], rank: &[u16], k: usize) -> Answer
-    requires { ⌜ Trimmed (now s) (now vs) (now at) (now ents) × Ranked (now vs) (now rank) × Ringed (now s) × (1 ≤ k) × (k ≤ length (now vs)) ⌝ }
-    ensures { λ r. ⌜ replyOf r ≡ given (positionRows k) (now (s .entry)) (λ z. k) ⌝ }
+// The rule at position k, which is answered where none applies; the run that is found there is kept.
+fn position(
+    s: &[u8],
+    vs: &[u16],
+    at: &[u16],
+    ents: &[u16],
+    rank: &[u16],
+    begin: &mut [u16],
+    long: &mut [u16],
+    k: usize,
+) -> Answer
+    requires { ⌜ Trimmed (now s) (now vs) (now at) (now ents) × Ranked (now vs) (now rank) × Ringed (now s) × (1 ≤ k) × (k ≤ length (now vs))
+        × WideOrder (now rank) (now begin) (now long) × RunsBefore (lists (now s)) (order (now s)) (now begin) (now long) k ⌝ }
+    ensures { λ r. ⌜ (replyOf r ≡ given (positionRows k) (now (s .entry)) (λ z. k))
+        × RunsIf r (now (s .entry)) (k + 1) (now (begin .exit)) (now (long .exit)) ⌝ }
 {
-    let f = order::rule_at(ents, at, vs, rank, k);
-    match f {
-        Fit::Good => Answer::Accepted(k as u16),
+    match order::rule_at(ents, at, vs, rank, k) {
+        Fit::Good(place, many) => {
+            begin[k - 1] = place;
+            long[k - 1] = many;
+            Answer::Accepted(k as u16)
+        }
         Fit::Few => Answer::Refused(Refusal::Few(k as u16)),
         Fit::Broken => Answer::Refused(Refusal::Broken(k as u16)),
     }
 }
 
-// The rule per position, at positions 3 to n in turn.
-pub fn fitting(s: &[u8], vs: &[u16], at: &[u16], ents: &[u16], rank: &[u16]) -> Answer
-    requires { ⌜ Trimmed (now s) (now vs) (now at) (now ents) × Ranked (now vs) (now rank) × Ringed (now s) ⌝ }
-    ensures { λ r. ⌜ replyOf r ≡ given (rowsFrom 3 (length (now (vs .entry)))) (now (s .entry)) posts ⌝ }
+// The rule per position, at positions 3 to n in turn. Where it holds at all of them, begin and long tell the run of each.
+pub fn fitting(
+    s: &[u8],
+    vs: &[u16],
+    at: &[u16],
+    ents: &[u16],
+    rank: &[u16],
+    begin: &mut [u16],
+    long: &mut [u16],
+) -> Answer
+    requires { ⌜ Trimmed (now s) (now vs) (now at) (now ents) × Ranked (now vs) (now rank) × Ringed (now s)
+        × WideOrder (now rank) (now begin) (now long) ⌝ }
+    ensures { λ r. ⌜ (replyOf r ≡ given (rowsFrom 3 (length (now (vs .entry)))) (now (s .entry)) posts)
+        × RunsIf r (now (s .entry)) (length (now (vs .entry)) + 1) (now (begin .exit)) (now (long .exit)) ⌝ }
 {
     let n = vs.len();
     let mut k = 3;
     while k <= n {
-        if let Answer::Refused(r) = position(s, vs, at, ents, rank, k) {
+        if let Answer::Refused(r) = position(s, vs, at, ents, rank, begin, long, k) {
             return Answer::Refused(r);
         }
         k += 1;

@@ -3,12 +3,12 @@ pub mod Contour
 pub mod Tests
 pub mod Runs
 pub mod Starts
+pub mod Opens
 pub mod Begins
 pub mod Growth
 pub mod Sound
 pub mod Fitting
 pub mod Ranked
+pub mod Reading
+pub mod Keeping
 pub mod Rule
-pub mod Opens
-pub mod Finding
-pub mod NextRing

@@ -13,9 +13,14 @@ use Rattle.words.proofs.Tests.{holds, is-true, either}
 use Rattle.rings.specs.Rings.{ring, around}
 use Rattle.rings.proofs.Around.{around-cut}
 use Rattle.rings.proofs.Places.{placeAfter}
-use Rattle.order.specs.Ranked.{starts}
 use Rattle.order.specs.Order.{from, rest, leads, oneRun}
 use Rattle.order.proofs.Tests.{from-at, from-start}
+
+-- how often a placed entry stands right after one that is not placed
+unfoldable pub starts : List ℕ → List ℕ → ℕ
+starts placed [] = 0
+starts placed (x ∷ []) = 0
+starts placed (x ∷ y ∷ l) = cond (not (mem placed x) && mem placed y) 1 0 + starts placed (y ∷ l)
 
 module _ (placed : List ℕ) where
   starts-cut : (X : List ℕ) (q : ℕ) (Z : List ℕ) → starts placed (X ++ q ∷ Z) ≡ starts placed (X ++ q ∷ []) + starts placed (q ∷ Z)
@@ -131,23 +136,6 @@ module _ (placed : List ℕ) where
   starts-close : (y : ℕ) (W : List ℕ) (x : ℕ) → ¬ (T (mem placed x)) → T (mem placed y)
       → starts placed (around (y ∷ (W ++ x ∷ []))) ≡ starts placed (y ∷ (W ++ x ∷ [])) + 1
   starts-close y W x nx py = omega (arith, ap (starts placed) (around-cut y W (x ∷ [])), starts-cut (y ∷ W) x (y ∷ []), one-begin x y nx py)
-
--- ---- the same by places: entry i is not placed, and the next one around is
-unfoldable pub startsAt : List ℕ → List ℕ → ℕ → Bool
-startsAt placed l i = not (mem placed (getD l i 0)) && mem placed (getD l (placeAfter (length l) i) 0)
-
-module _ (placed l : List ℕ) where
-  starts-first : starts placed (take 1 l) ≡ 0
-  unfolding starts
-  starts-first = go l
-    where
-      go : (l : List ℕ) → starts placed (take 1 l) ≡ 0
-      go [] = refl
-      go (x ∷ l) = refl
-
-  pub starts-last : (i : ℕ) → length l ≡ i → starts placed (drop i (around l)) ≡ 0
-  unfolding around
-  starts-last i h = rw (drop-at l (take 1 l) i h) starts-first
 
 -- one run: at most one placed neighbour follows one that is not placed
 module _ (G : List (List ℕ)) (placed : List ℕ) (v : ℕ) where

@@ -1,11 +1,13 @@
 -- What the engine takes: plane rings and a list of posts that fits so far, as running code holds them.
-use Prim.Native.Nat.{ℕ, _+_, _≤_}
+use Prim.Native.Nat.{ℕ, _+_, _-_, _≤_, _<_}
+use mathlib.Core.Path.{_≡_}
 use mathlib.Core.List.{List}
-use lib.ListN.{length}
-use Rattle.words.specs.Positions.{post}
+use lib.ListN.{length, getD}
+use Rattle.words.specs.Positions.{post, earlier}
 use Rattle.block.specs.Layout.{limit}
 use Rattle.rings.specs.Plane.{Plane}
 use Rattle.rings.specs.Held.{held, Cuts}
+use Rattle.order.specs.Order.{runBegin, run}
 use Rattle.order.specs.Fitting.{FitsSoFar}
 use Rattle.order.specs.Ranked.{RankedBelow, RunsBefore}
 
@@ -28,3 +30,13 @@ pub record Reachable (at ents vs rank begin long : List ℕ) (k : ℕ) : Type 0 
   pub fitted : Fitted at ents vs rank begin long
   pub least : 3 ≤ k
   pub most : k ≤ length vs
+
+-- where the run of the post in position k begins in its ring is known, and the run has a post i, counted from 0
+pub record RunKept (at ents vs begin : List ℕ) (k i : ℕ) : Type 0 where
+  pub cuts : Cuts at ents
+  pub least : 1 ≤ k
+  pub most : k ≤ length vs
+  pub low : post vs k < length (held at ents)
+  pub room : k ≤ length begin
+  pub begins : getD begin (k - 1) 0 ≡ runBegin (held at ents) (earlier vs k) (post vs k)
+  pub inside : i < length (run (held at ents) (earlier vs k) (post vs k))

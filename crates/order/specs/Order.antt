@@ -44,7 +44,7 @@ begins G placed v s =
     leads placed (from s (ring G v)) && (not (allOf (mem placed) (ring G v)) || eqb (getD (ring G v) s 0) (post placed 1))
 
 -- the first such place, counted from 0; beyond the list if there is none
-unfoldable pub runBegin : List (List ℕ) → List ℕ → ℕ → ℕ
+abbrev pub runBegin : List (List ℕ) → List ℕ → ℕ → ℕ
 runBegin G placed v = first 0 (length (ring G v)) (begins G placed v)
 
 -- the run of v, read counter-clockwise: w_p to w_q

@@ -1,5 +1,5 @@
--- How running code holds an order, and what it counts in a ring.
-use Prim.Native.Nat.{ℕ, _+_, _≤_, _<_}
+-- How running code holds an order, and what it finds in a ring.
+use Prim.Native.Nat.{ℕ, _-_, _≤_, _<_}
 use mathlib.Core.Path.{_≡_}
 use mathlib.Core.Bool.{Bool, true, not, cond, _&&_}
 use mathlib.Core.List.{List, [], _∷_}
@@ -42,12 +42,6 @@ pub record Listed (at ents vs rank : List ℕ) : Type 0 where
 pub record RunsBefore (G : List (List ℕ)) (vs begin long : List ℕ) (m : ℕ) : Type 0 where
   pub begins : (k : ℕ) → 3 ≤ k → k < m → getD begin (k - 1) 0 ≡ runBegin G (earlier vs k) (post vs k)
   pub lasts : (k : ℕ) → 3 ≤ k → k < m → getD long (k - 1) 0 ≡ length (run G (earlier vs k) (post vs k))
-
--- how often a placed entry stands right after one that is not placed
-unfoldable pub starts : List ℕ → List ℕ → ℕ
-starts placed [] = 0
-starts placed (x ∷ []) = 0
-starts placed (x ∷ y ∷ l) = cond (not (mem placed x) && mem placed y) 1 0 + starts placed (y ∷ l)
 
 -- what 12 and 13 find in v, the next post: where its run begins in its ring, and how long it is; or fewer than two placed neighbours; or not one run
 abbrev pub fitOf : List (List ℕ) → List ℕ → ℕ → Fit

@@ -95,3 +95,15 @@ module _ (p : ℕ → Bool) where
       go : Dec (first i k p < i + k) → (first i k p < i + k) × (p (first i k p) ≡ true)
       go (yes h) = (h, first-is k i .there h)
       go (no n) = absurd (true≢false (sym t ∙ first-is k i .before j a (omega (arith, first-is k i .to))))
+
+-- tests that agree on the numbers find the same
+pub first-same : (p q : ℕ → Bool) (i k : ℕ) → ((j : ℕ) → i ≤ j → j < i + k → p j ≡ q j) → first i k p ≡ first i k q
+first-same p q i zero h = first-zero p i ∙ sym (first-zero q i)
+first-same p q i (suc k) h = go (q i) refl (first-same p q (suc i) k (λ j a b. h j (omega arith) (omega arith)))
+  where
+    here : p i ≡ q i
+    here = h i (omega arith) (omega arith)
+
+    go : (b : Bool) → q i ≡ b → first (suc i) k p ≡ first (suc i) k q → first i (suc k) p ≡ first i (suc k) q
+    go true e r = first-true p i k (here ∙ e) ∙ sym (first-true q i k e)
+    go false e r = first-false p i k (here ∙ e) ∙ r ∙ sym (first-false q i k e)

@@ -34,24 +34,27 @@ same-length-4 c = search needs
 
 returns : tie.Need-returns
 returns c =
-    let back = c .before .before .before .before .before in
-    let asked = back .before .before .before .before .before .load in
+    let asked = c .before .before .before .before .before .before .before .before .before .before .load in
     let told = c .enum-told2 .given .1 in
     (stops _ loadRows (asked .result) (asked .ensures .0) _ _ told, λ n. never _ _ n told)
 
 loaded-requires : tie.Need-loaded-requires
 loaded-requires c κs =
-    let past = c .before .before .before .before in
-    let back = past .before .before .before .before .before in
-    let loading = back .before .before .before .before .before in
-    let lent = loading .before .before .before .before .before in
-    let entry = lent .before .before .before .before .before .before in
+    let past = c .before .before .before .before .before .before in
+    let loading = past .before .before .before .before .before .before .before .before .before .before in
+    let entry = loading .before .before .before .before .before .before .before .before .before .before .before .before .before in
     let asked = loading .load in
     let s = entry .args .s .now in
     let told = past .enum-told .given .1 in
     let none = none-applied s loadRows (asked .result) (asked .ensures .0) _ told in
     let names = entered s (none-left orderRows degreeRows s none) in
-    (entry .pre .0, record { names = search needs; places = search needs; all = search needs }, asked .ensures .1 _ (ap replyOf told), names, search needs)
+    (
+      entry .pre .0,
+      record { names = search needs; places = search needs; all = search needs },
+      asked .ensures .1 _ (ap replyOf told),
+      names,
+      entry .pre .3,
+    )
 
 same-length-5 : tie.Need-same-length-5
 same-length-5 c = search needs
@@ -68,22 +71,27 @@ same-length-8 c = search needs
 same-length-9 : tie.Need-same-length-9
 same-length-9 c = search needs
 
+same-length-10 : tie.Need-same-length-10
+same-length-10 c = search needs
+
+same-length-11 : tie.Need-same-length-11
+same-length-11 c = search needs
+
 returns-2 : tie.Need-returns-2
 returns-2 c =
-    let past = c .before .before .before .before .before .before .before in
-    let back = past .before .before .before .before .before in
-    let loading = back .before .before .before .before .before in
-    let lent = loading .before .before .before .before .before in
-    let entry = lent .before .before .before .before .before .before in
+    let doing = c .before .before .before .before .before .before in
+    let past = doing .before .before .before .before .before .before .before in
+    let loading = past .before .before .before .before .before .before .before .before .before .before in
+    let entry = loading .before .before .before .before .before .before .before .before .before .before .before .before .before in
     let asked = loading .load in
-    let last = c .before .before .loaded in
+    let last = doing .loaded in
     let s = entry .args .s .now in
     let told = past .enum-told .given .1 in
     let held = asked .ensures .1 _ (ap replyOf told) in
     let is : (n : ℕ) → replyOf (last .result) ≡ accepted n → n ≡ posts s =
     λ n f. accepted-is s posts (loadedRows s) n (sym (last .ensures .0) ∙ f) in (
       last .ensures .0 ∙ goes-on s loadRows (asked .result) (asked .ensures .0) (loadedRows s) _ told,
-      λ n f. checked s (entry .args .b .n) n _ _ _ _ (entry .pre .0) held (last .ensures .1 n f) (is n f),
+      λ n f. checked s (entry .args .b .n) n _ _ _ _ _ _ (entry .pre .0) held (last .ensures .1 n f) (is n f),
     )
 
 pub body-spec : {M : Type 1} → statement M
@@ -104,4 +112,6 @@ body-spec =
     same-length-7
     same-length-8
     same-length-9
+    same-length-10
+    same-length-11
     returns-2)

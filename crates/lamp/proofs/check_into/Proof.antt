@@ -22,7 +22,7 @@ returns : tie.Need-returns
 returns c =
     let heading = c .before .before in
     let asked = heading .header in
-    let entry = heading .before .before .before .before .before .before .before in
+    let entry = heading .before .before .before .before .before .before .before .before .before in
     let s = entry .args .s .now in
     let told = c .enum-told .given .1 in
     (stops s (headerRows ++ sumRows) (asked .result) (asked .ensures) (loadRows ++ loadedRows s) _ told ∙ whole-table s, λ n. never _ _ n told)
@@ -32,14 +32,15 @@ number-requires c κs = search needs
 
 body-requires : tie.Need-body-requires
 body-requires c κs =
-    let counting = c .before .before .before .before .before in
+    let counting = c .before .before .before .before .before .before .before in
     let known = counting .before .before in
     let asked = known .before .before .header in
+    let entry = counting .before .before .before .before .before .before .before .before .before .before .before .before .before in
     let rows = headerRows ++ sumRows in
     let told = known .h .given .1 in
     let is = counting .number .ensures .0 ∙ counts _ rows (asked .result) (asked .ensures) _ told in
     let H = framed-headed _ _ is (none-applied _ rows (asked .result) (asked .ensures) _ told) in
-    (H, record { names = search needs; places = search needs; all = search needs }, search needs, search needs)
+    (H, entry .pre .0, entry .pre .1, entry .pre .2)
 
 same-length : tie.Need-same-length
 same-length c = search needs
@@ -56,14 +57,18 @@ same-length-4 c = search needs
 same-length-5 : tie.Need-same-length-5
 same-length-5 c = search needs
 
+same-length-6 : tie.Need-same-length-6
+same-length-6 c = search needs
+
+same-length-7 : tie.Need-same-length-7
+same-length-7 c = search needs
+
 returns-2 : tie.Need-returns-2
 returns-2 c =
-    let back = c .before .before .before .before .before in
-    let doing = back .before .before .before .before .before in
-    let lent = doing .before .before .before .before .before .before in
-    let known = lent .before .before in
+    let doing = c .before .before .before .before .before .before .before .before .before .before .before .before .before .before in
+    let known = doing .before .before .before .before .before .before .before .before .before .before in
     let heading = known .before .before in
-    let entry = heading .before .before .before .before .before .before .before in
+    let entry = heading .before .before .before .before .before .before .before .before .before in
     let s = entry .args .s .now in
     let asked = heading .header in
     let past = goes-on s (headerRows ++ sumRows) (asked .result) (asked .ensures) (loadRows ++ loadedRows s) _ (known .h .given .1) in
@@ -84,4 +89,6 @@ check-into-spec =
     same-length-3
     same-length-4
     same-length-5
+    same-length-6
+    same-length-7
     returns-2)

@@ -16,18 +16,21 @@ add-p : tie.Need-add-p
 add-p c = search needs
 
 slice-aggregate-order-and-board : tie.Need-slice-aggregate-order-and-board
-slice-aggregate-order-and-board c = sym (length-take-le _ _ (omega arith))
+slice-aggregate-order-and-board c =
+    sym (length-take-le _ _ (omega arith))
 
 slice-aggregate-order-and-board-2 : tie.Need-slice-aggregate-order-and-board-2
-slice-aggregate-order-and-board-2 c = sym (length-take-le _ _ (omega arith))
+slice-aggregate-order-and-board-2 c =
+    sym (length-take-le _ _ (omega arith))
 
 slice-aggregate-order-and-board-3 : tie.Need-slice-aggregate-order-and-board-3
-slice-aggregate-order-and-board-3 c = sym (length-take-le _ _ (omega arith))
+slice-aggregate-order-and-board-3 c =
+    sym (length-take-le _ _ (omega arith))
 
 order-and-board-requires : tie.Need-order-and-board-requires
 order-and-board-requires c κs =
-    let sized = c .before .before .before .before in
-    let entry = sized .before .before .before .before .before .before in
+    let sized = c .before .before .before .before .before .before in
+    let entry = sized .before .before .before .before .before .before .before .before in
     let s = entry .args .s .now in
     let n = entry .args .b .n in
     let vs = entry .args .vs .now in
@@ -35,10 +38,16 @@ order-and-board-requires c κs =
     let ents = entry .args .ents .now in
     let L = trimmed s n vs at ents (entry .pre .0) (omega (arith, entry .pre .1 .places)) (entry .pre .2) in
     let T = subst⁻¹ (λ (m : ℕ). Trimmed s (take n vs) (take (n + 1) at) (take m ents)) (sized .entries .ensures) L in
-    (T, search needs, entry .pre .3)
+    (T, entry .pre .4, entry .pre .3)
 
 same-length : tie.Need-same-length
 same-length c = search needs
+
+same-length-2 : tie.Need-same-length-2
+same-length-2 c = search needs
+
+same-length-3 : tie.Need-same-length-3
+same-length-3 c = search needs
 
 returns : tie.Need-returns
 returns c = search needs
@@ -54,4 +63,6 @@ loaded-spec =
     slice-aggregate-order-and-board-3
     order-and-board-requires
     same-length
+    same-length-2
+    same-length-3
     returns)
