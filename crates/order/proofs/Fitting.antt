@@ -56,12 +56,27 @@ module _ (G : List (List ℕ)) (vn : ℕ) (vs : List ℕ) (P : Plane G (post vs 
       grow G fits-faces (post vs 1) (post vs 2) vn fits-outer (earlier vs k) K (post vs k) (getD-take (k - 1) vs 0 0 (omega arith)) C
       (post-new vs fits-once k (omega arith) i) (A .two k h i) (A .run k h i) (full k (omega arith) i)
 
+-- ---- of the posts before a position and the post in it
+abbrev At : (List ℕ → ℕ → Type 0) → List ℕ → ℕ → Type 0
+At Q l k = Q (earlier l k) (post l k)
+
+module _ (vs : List ℕ) (u : ℕ) where
+  one-longer : length (vs ++ u ∷ []) ≡ length vs + 1
+  one-longer = omega (arith, length-append vs (u ∷ []))
+
+  -- what holds at each position of vs, and of u after vs, holds at each position of both
+  pub at-more : (Q : List ℕ → ℕ → Type 0) (k : ℕ) → 1 ≤ k → k ≤ length (vs ++ u ∷ []) → (k ≤ length vs → Q (earlier vs k) (post vs k)) → Q vs u
+      → Q (earlier (vs ++ u ∷ []) k) (post (vs ++ u ∷ []) k)
+  at-more Q k h i f q = go (decLt (length vs) k)
+    where
+      go : Dec (length vs < k) → At Q (vs ++ u ∷ []) k
+      go (no m) = rw (take-append-le (k - 1) vs (u ∷ []) (omega arith), List·getD-append vs (u ∷ []) 0 (k - 1) (omega arith)) (f (omega arith))
+      go (yes m) =
+          let e : length vs ≡ k - 1 = omega (arith, one-longer) in
+          rw (take-at vs (u ∷ []) (k - 1) e, getD-at vs u [] 0 (k - 1) e) q
+
 -- ---- a list's beginnings fit, and so does the list with a post more that passes the rule
 module _ (G : List (List ℕ)) (vn : ℕ) (vs : List ℕ) (A : FitsSoFar G vn vs) where
-  -- a test over the posts before a position and the post in it
-  abbrev At : (List ℕ → ℕ → Type 0) → List ℕ → ℕ → Type 0
-  At Q l k = Q (earlier l k) (post l k)
-
   pub fits-take : (j : ℕ) → j ≤ length vs → FitsSoFar G vn (take j vs)
   fits-take j to =
       record {
@@ -82,26 +97,13 @@ module _ (G : List (List ℕ)) (vn : ℕ) (vs : List ℕ) (A : FitsSoFar G vn vs
 
   module _ (u : ℕ) (low : u < length G) (new : ¬ (In u vs)) (two : twoPlaced G vs u ≡ true) (one : oneRun G vs u ≡ true)
       (last : u ≡ vn → length vs + 1 ≡ length G) where
-    n : length (vs ++ u ∷ []) ≡ length vs + 1
-    n = omega (arith, length-append vs (u ∷ []))
-
-    -- what holds at each position of vs, and of u after vs, holds at each position of both
-    more : (Q : List ℕ → ℕ → Type 0) (k : ℕ) → 1 ≤ k → k ≤ length (vs ++ u ∷ []) → (k ≤ length vs → At Q vs k) → Q vs u → At Q (vs ++ u ∷ []) k
-    more Q k h i f q = go (decLt (length vs) k)
-      where
-        go : Dec (length vs < k) → At Q (vs ++ u ∷ []) k
-        go (no m) = rw (take-append-le (k - 1) vs (u ∷ []) (omega arith), List·getD-append vs (u ∷ []) 0 (k - 1) (omega arith)) (f (omega arith))
-        go (yes m) =
-            let e : length vs ≡ k - 1 = omega (arith, n) in
-            rw (take-at vs (u ∷ []) (k - 1) e, getD-at vs u [] 0 (k - 1) e) q
-
     pub fits-more : FitsSoFar G vn (vs ++ u ∷ [])
     fits-more =
         record {
           below = λ a. in-cases a vs (u ∷ []) (A .below a) (elim [ inl e ↦ rw e low | inr z ↦ absurd z ]);
           once = once-different (vs ++ u ∷ []) (once-join vs (u ∷ []) (different-once vs (A .once)) ((λ z. z), tt) apart);
-          two = λ k h i. more (λ l v. twoPlaced G l v ≡ true) k (omega arith) i (A .two k h) two;
-          run = λ k h i. more (λ l v. oneRun G l v ≡ true) k (omega arith) i (A .run k h) one;
+          two = λ k h i. at-more vs u (λ l v. twoPlaced G l v ≡ true) k (omega arith) i (A .two k h) two;
+          run = λ k h i. at-more vs u (λ l v. oneRun G l v ≡ true) k (omega arith) i (A .run k h) one;
           last = λ k h i. at k h i (decLt (length vs) k);
         }
       where
@@ -111,7 +113,7 @@ module _ (G : List (List ℕ)) (vn : ℕ) (vs : List ℕ) (A : FitsSoFar G vn vs
 
         at : (k : ℕ) → 1 ≤ k → k ≤ length (vs ++ u ∷ []) → Dec (length vs < k) → post (vs ++ u ∷ []) k ≡ vn → k ≡ length G
         at k h i (no m) e = A .last k h (omega arith) (sym (List·getD-append vs (u ∷ []) 0 (k - 1) (omega arith)) ∙ e)
-        at k h i (yes m) e = let l = last (sym (getD-at vs u [] 0 (k - 1) (omega (arith, n))) ∙ e) in omega (arith, n)
+        at k h i (yes m) e = let l = last (sym (getD-at vs u [] 0 (k - 1) (omega (arith, one-longer vs u))) ∙ e) in omega (arith, one-longer vs u)
 
 -- an order that passes: the rings are plane, and it fits to its end
 pub passes-plane : (G : List (List ℕ)) (vs : List ℕ) → Passes G vs → Plane G (post vs 1) (post vs 2) (post vs (length G))

@@ -141,7 +141,7 @@ module _ (G : List (List ℕ)) (vs : List ℕ) where
 
 -- ---- a list that fits so far, on plane rings
 -- from 3 on, a number at a time
-from-three : (Q : ℕ → Type 0) (n : ℕ) → Q 3 → ((k : ℕ) → 3 ≤ k → k < n → Q k → Q (k + 1)) → (k : ℕ) → 3 ≤ k → k ≤ n → Q k
+pub from-three : (Q : ℕ → Type 0) (n : ℕ) → Q 3 → ((k : ℕ) → 3 ≤ k → k < n → Q k → Q (k + 1)) → (k : ℕ) → 3 ≤ k → k ≤ n → Q k
 from-three Q n b f zero h i = absurd (omega arith)
 from-three Q n b f (suc zero) h i = absurd (omega arith)
 from-three Q n b f (suc (suc zero)) h i = absurd (omega arith)
@@ -149,9 +149,10 @@ from-three Q n b f (suc (suc (suc zero))) h i = b
 from-three Q n b f (suc (suc (suc (suc k)))) h i =
     rw add-one at (f (suc (suc (suc k))) (omega arith) i (from-three Q n b f (suc (suc (suc k))) (omega arith) (omega arith)))
 
--- with M between them v1 and v2 are the whole contour v1, v2: v3 comes between them
-two-long : (X M Y : List ℕ) (v1 v2 v3 p q : ℕ) → v1 ∷ v2 ∷ [] ≡ X ++ p ∷ (M ++ q ∷ Y) → X ++ p ∷ v3 ∷ q ∷ Y ≡ v1 ∷ v3 ∷ v2 ∷ []
-two-long [] [] [] v1 v2 v3 p q e = cc e
+-- a run on the contour v1, v2 is the whole of it: v3 comes between them
+two-long : (X M Y : List ℕ) (v1 v2 v3 p q : ℕ) → v1 ∷ v2 ∷ [] ≡ X ++ p ∷ (M ++ q ∷ Y)
+    → (p ∷ (M ++ q ∷ []) ≡ v1 ∷ v2 ∷ []) × (X ++ p ∷ v3 ∷ q ∷ Y ≡ v1 ∷ v3 ∷ v2 ∷ [])
+two-long [] [] [] v1 v2 v3 p q e = (sym e, cc e)
 two-long [] [] (y ∷ Y) v1 v2 v3 p q e = absurd (omega (arith, ap length e))
 two-long [] (m ∷ M) Y v1 v2 v3 p q e = absurd (omega (arith, ap length e, length-append M (q ∷ Y)))
 two-long (x ∷ X) M Y v1 v2 v3 p q e = absurd (omega (arith, ap length e, length-append X (p ∷ (M ++ q ∷ Y)), length-append M (q ∷ Y)))
@@ -205,12 +206,20 @@ module _ (G : List (List ℕ)) (vn : ℕ) (vs : List ℕ) (P : Plane G (post vs 
                 (subst⁻¹ (λ (l : List ℕ). From l (place G t v .contour)) (place-placed G t v) (subst⁻¹ (From (t .placed ++ v ∷ [])) a (g .now)));
           }
 
-  -- stage 3's contour is v1, v3, v2
-  pub third-contour : 3 ≤ length vs → Contour (After G) (post vs 1) (post vs 2) (take 3 vs) (post vs 1 ∷ post vs 3 ∷ post vs 2 ∷ [])
-  third-contour h =
-      let g = fits-grow G vn vs P A 3 (omega arith) h (post vs 1 ∷ post vs 2 ∷ []) (fits-start G vn vs P A (omega arith)) in
-      let between = two-long (g .X) (g .M) (g .Y) (post vs 1) (post vs 2) (post vs 3) (g .p) (g .q) (g .before) in
-      rw (earlier-next vs 3 (omega arith) h) (subst (From (earlier vs 3 ++ post vs 3 ∷ [])) between (g .now))
+  -- v3's run is v1, v2, and stage 3's contour is v1, v3, v2
+  module _ (h : 3 ≤ length vs) where
+    third-grown : Grown G (post vs 1) (post vs 2) (earlier vs 3) (post vs 1 ∷ post vs 2 ∷ []) (post vs 3)
+    third-grown = fits-grow G vn vs P A 3 (omega arith) h (post vs 1 ∷ post vs 2 ∷ []) (fits-start G vn vs P A (omega arith))
+
+    third-ends : let g = third-grown in
+        (g .p ∷ (g .M ++ g .q ∷ []) ≡ post vs 1 ∷ post vs 2 ∷ []) × (g .X ++ g .p ∷ post vs 3 ∷ g .q ∷ g .Y ≡ post vs 1 ∷ post vs 3 ∷ post vs 2 ∷ [])
+    third-ends = let g = third-grown in two-long (g .X) (g .M) (g .Y) (post vs 1) (post vs 2) (post vs 3) (g .p) (g .q) (g .before)
+
+    pub third-run : run G (earlier vs 3) (post vs 3) ≡ post vs 1 ∷ post vs 2 ∷ []
+    third-run = third-grown .run-is ∙ third-ends .0
+
+    pub third-contour : Contour (After G) (post vs 1) (post vs 2) (take 3 vs) (post vs 1 ∷ post vs 3 ∷ post vs 2 ∷ [])
+    third-contour = rw (earlier-next vs 3 (omega arith) h) (subst (From (earlier vs 3 ++ post vs 3 ∷ [])) (third-ends .1) (third-grown .now))
 
   -- the step from a stage with its contour
   step-from : (k : ℕ) → 3 ≤ k → k < length vs → From (take k vs) (stage G (take k vs) .contour) → Step G (stage G (take k vs)) (post vs (k + 1))

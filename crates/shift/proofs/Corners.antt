@@ -1,9 +1,8 @@
 -- The corners of a drawing: at every stage v1 and v2 stand at the two ends of the bottom, and vn, which comes last, at the top between them.
 use Prim.Native.Nat.{ℕ, _+_, _*_, _-_, _≤_, _<_}
-use mathlib.Core.Path.{_≡_, refl, ap, _∙_, subst}
+use mathlib.Core.Path.{_≡_, refl, ap, _∙_}
 use mathlib.Core.List.{List}
 use native.Mathlib.Omega.{arith}
-use native.Mathlib.Decide.{decLt}
 use lib.ListN.{length, take}
 use Rattle.words.specs.Lists.{In}
 use Rattle.words.specs.Positions.{post}
@@ -15,7 +14,7 @@ use Rattle.rings.proofs.Around.{After}
 use Rattle.order.specs.Fitting.{FitsSoFar}
 use Rattle.order.proofs.Fitting.{fits-faces, fits-outer}
 use Rattle.placing.specs.Stages.{Stage, third, stage}
-use Rattle.placing.proofs.Steps.{stage-third, stage-first, stage-second}
+use Rattle.placing.proofs.Steps.{stage-third, stage-first, stage-second, from-three}
 use Rattle.shift.proofs.Every.{Advance, placed-at, low-at, within-at, left-at, right-at, one-step-at}
 
 module _ (G : List (List ℕ)) (vn : ℕ) (vs : List ℕ) (P : Plane G (post vs 1) (post vs 2) vn) (A : FitsSoFar G vn vs) where
@@ -52,11 +51,11 @@ module _ (G : List (List ℕ)) (vn : ℕ) (vs : List ℕ) (P : Plane G (post vs 
     abbrev t' : Stage
     t' = stage G (take (k + 1) vs)
 
-    D : Advance G (stage G (take k vs)) t' (post vs (k + 1))
+    abbrev D : Advance G (stage G (take k vs)) t' (post vs (k + 1))
     D = one-step-at G vn vs P A k h i
 
-    ends : (D .step .p ≡ post vs 1) × (D .step .q ≡ post vs 2)
-    ends =
+    pub top-ends : (D .step .p ≡ post vs 1) × (D .step .q ≡ post vs 2)
+    top-ends =
         let S = D .step in
         let j : k ≤ length vs = omega arith in
         let here = placed-at G vn vs P A k h j in
@@ -67,10 +66,11 @@ module _ (G : List (List ℕ)) (vn : ℕ) (vs : List ℕ) (P : Plane G (post vs 
     top-step =
         let d = D .does in
         let low = bottom-at (k + 1) (omega arith) (omega arith) in
-        let xp = ap (t' .x) (ends .0) ∙ low .0 in
-        let yp = ap (t' .y) (ends .0) ∙ low .1 in
-        let xq = ap (t' .x) (ends .1) ∙ low .2 in
-        let yq = ap (t' .y) (ends .1) ∙ low .3 in
+        let e = top-ends in
+        let xp = ap (t' .x) (e .0) ∙ low .0 in
+        let yp = ap (t' .y) (e .0) ∙ low .1 in
+        let xq = ap (t' .x) (e .1) ∙ low .2 in
+        let yq = ap (t' .y) (e .1) ∙ low .3 in
         (omega (arith, d .exact-x), omega (arith, d .exact-y))
 
   -- with three posts, vn is v3
@@ -79,10 +79,4 @@ module _ (G : List (List ℕ)) (vn : ℕ) (vs : List ℕ) (P : Plane G (post vs 
   top-third h = rw (stage-third G vs h, eqb-same (post vs 3)) (refl, refl)
 
   pub top-at : (n : ℕ) → 3 ≤ n → n ≤ length vs → post vs n ≡ vn → Top n
-  top-at n h i e = go (decLt 3 n)
-    where
-      go : Dec (3 < n) → Top n
-      go (yes m) =
-          let r : n - 1 + 1 ≡ n = omega arith in
-          subst Top r (top-step (n - 1) (omega arith) (omega arith) (ap (post vs) r ∙ e))
-      go (no m) = let r : 3 ≡ n = omega arith in subst Top r (top-third (omega arith))
+  top-at n h i = from-three (λ n. post vs n ≡ vn → Top n) (length vs) (λ e. top-third (omega arith)) (λ k h i r. top-step k h i) n h i

@@ -11,7 +11,7 @@ use Rattle.drawing.specs.Meeting.{Places, NoneMeet, OnGrid}
 use Rattle.words.proofs.Chains.{Chain, chain-map, chain-from}
 use Rattle.drawing.proofs.Build.{Build, Built, Good, on-contour}
 use Rattle.drawing.proofs.Static.{none-meet, different}
-use Rattle.shift.proofs.Tri.{Tri}
+use Rattle.shift.proofs.Tri.{Over}
 use Rattle.shift.proofs.Shift.{good}
 use Rattle.shift.proofs.Shifting.{Onward, onward-trans}
 use Rattle.shift.proofs.Drawn.{placesOf, Drawn}
@@ -79,8 +79,8 @@ pub record Recast (t : Stage) {C : List ℕ} (B : Build C) (C' : List ℕ) : Typ
   pub drawn : Drawn t B'
   pub wire : (u w : ℕ) → Built B u w → Built B' u w
   pub wire-back : (u w : ℕ) → Built B' u w → Built B u w
-  pub tri : (a b v : ℕ) → Tri B a b v → Tri B' a b v
+  pub over : (v : ℕ) (w : List ℕ) → Over B v w → Over B' v w
 
 pub recast : {t : Stage} {C : List ℕ} (B : Build C) (C' : List ℕ) → Drawn t B → t .contour ≡ C' → Recast t B C'
 recast {t} B C' D e =
-    subst (Recast t B) (sym (D .contour) ∙ e) (record { B' = B; drawn = D; wire = λ u w h. h; wire-back = λ u w h. h; tri = λ a b v h. h })
+    subst (Recast t B) (sym (D .contour) ∙ e) (record { B' = B; drawn = D; wire = λ u w h. h; wire-back = λ u w h. h; over = λ v w h. h })

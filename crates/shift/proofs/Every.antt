@@ -144,14 +144,17 @@ module _ (G : List (List ℕ)) (vn : ℕ) (vs : List ℕ) (P : Plane G (post vs 
         let d = one-step-at .does in
         (d .height u b, d .never-left u b, d .at-most-two u b)
 
+    -- the new post's run, as its step has it
+    pub run-at : let S = one-step-at .step in run G (take k vs) (post vs (k + 1)) ≡ S .p ∷ (S .M ++ S .q ∷ [])
+    run-at = ap (λ (l : List ℕ). run G l (post vs (k + 1))) (sym (placed-at k h (omega arith))) ∙ one-step-at .step .run-is
+
     -- the new post's run w has two ends, both placed before, and the step is one over them: what is halved is exact
     pub exact-at : (w : List ℕ) → w ≡ run G (take k vs) (post vs (k + 1)) → (2 ≤ length w) × In (post w 1) (take k vs) × In (lastOf 0 w) (take k vs)
         × OneStep (stage G (take k vs)) (stage G (take (k + 1) vs)) (post w 1) (lastOf 0 w) (post vs (k + 1))
     exact-at w e =
         let A = one-step-at in
         let S = A .step in
-        let here = placed-at k h (omega arith) in
-        let is : w ≡ S .p ∷ (S .M ++ S .q ∷ []) = e ∙ ap (λ (l : List ℕ). run G l (post vs (k + 1))) (sym here) ∙ S .run-is in
+        let is : w ≡ S .p ∷ (S .M ++ S .q ∷ []) = e ∙ run-at in
         let all = contour-placed-at k h (omega arith) in
         let p = in-right (S .p) (S .X) (S .p ∷ (S .M ++ S .q ∷ S .Y)) (inl refl) in
         let q = in-right (S .q) (S .X) (S .p ∷ (S .M ++ S .q ∷ S .Y)) (inr (in-right (S .q) (S .M) (S .q ∷ S .Y) (inl refl))) in

@@ -13,4 +13,5 @@ pub mod Tied
 pub mod Every
 pub mod Mirror
 pub mod Corners
+pub mod Between
 pub mod OnBoards

@@ -23,7 +23,7 @@ use Rattle.drawing.proofs.Build.{Build}
 use Rattle.shift.proofs.Drawn.{placesOf}
 use Rattle.shift.proofs.Tri.{Tri, tri-turn}
 use Rattle.shift.proofs.DrawnSays.{turns}
-use Rattle.shift.proofs.Tied.{Tied, tied-third, third-tri, tied-next, tri-old, tri-new}
+use Rattle.shift.proofs.Tied.{Tied, tied-third, third-over, tied-next, over-old, over-new}
 use Rattle.shift.proofs.Every.{three-differ, placed-at}
 
 -- one of the three posts was placed over the two others, or it is the outer one
@@ -72,7 +72,7 @@ module _ (G : List (List ℕ)) (F : Faces G) (v1 v2 vn : ℕ) (o : After G v2 v1
 
     corner : (a b : ℕ) → After G v a b → In a (v1 ∷ v2 ∷ []) → In b (v1 ∷ v2 ∷ []) → Accounted (T3 .B) v1 v2 vn v a b
     corner a b f (inl i) (inl j) = absurd (R .self v1 v (R .triangle v v1 v1 (rw (i, j) at f)))
-    corner a b f (inl i) (inr (inl j)) = over-u (third-tri G F v1 v2 v d12 d13 d23 a b (inl (sym i, sym j)))
+    corner a b f (inl i) (inr (inl j)) = over-u (v1 ∷ v2 ∷ [], third-over G F v1 v2 v d12 d13 d23, inl (sym i, sym j))
     corner a b f (inr (inl i)) (inl j) = outer (inr (inr (R .next-one v2 v1 v vn (R .triangle v v2 v1 (rw (i, j) at f)) o, i, j)))
     corner a b f (inr (inl i)) (inr (inl j)) = absurd (R .self v2 v (R .triangle v v2 v2 (rw (i, j) at f)))
 
@@ -130,17 +130,20 @@ module _ (G : List (List ℕ)) (F : Faces G) (v1 v2 vn : ℕ) (o : After G v2 v1
 
     new-face : (a b : ℕ) → After G v a b → In a (t .placed) → In b (t .placed) → Accounted (T' .B) v1 v2 vn v a b
     new-face a b f i j =
-        adj-cases a b (S .p ∷ S .M) (S .q) (S .p ∷ []) (λ h. over-u (tri-new G t v S (D .tied) F a b h))
+        adj-cases a b (S .p ∷ S .M) (S .q) (S .p ∷ []) (λ h. over-u (_, over-new G t v S (D .tied) F, h))
         (elim [
           | inl e ↦ let c = closes (rw (← (e .0), ← (e .1)) at f) in outer (inr (inr (c .0, sym (e .0) ∙ c .1, sym (e .1) ∙ c .2)))
           | inr h ↦ absurd (elim h [ inl e ↦ e .1 | inr k ↦ k ])
         ])
         (S .the-run .inner a b f i j)
 
+    tri-old : (a b u : ℕ) → Tri (D .tied .B) a b u → Tri (T' .B) a b u
+    tri-old a b u h = (h .0, over-old G t v S (D .tied) F u (h .0) (h .1), h .2)
+
     still : {u a b : ℕ} → Accounted (D .tied .B) v1 v2 vn u a b → Accounted (T' .B) v1 v2 vn u a b
-    still {u} {a} {b} (over-u h) = over-u (tri-old G t v S (D .tied) F a b u h)
-    still {u} {a} {b} (over-a h) = over-a (tri-old G t v S (D .tied) F b u a h)
-    still {u} {a} {b} (over-b h) = over-b (tri-old G t v S (D .tied) F u a b h)
+    still {u} {a} {b} (over-u h) = over-u (tri-old a b u h)
+    still {u} {a} {b} (over-a h) = over-a (tri-old b u a h)
+    still {u} {a} {b} (over-b h) = over-b (tri-old u a b h)
     still (outer h) = outer h
 
     faced-next : Faced G v1 v2 vn (place G t v)

@@ -10,17 +10,18 @@ use Rattle.drawing.proofs.Numbers.{by-le}
 use Rattle.drawing.specs.Areas.{PositiveArea}
 use Rattle.words.proofs.Lists.{in-right, in-run}
 use Rattle.words.proofs.Chains.{Chain, chain-map, chain-in}
-use Rattle.drawing.proofs.Build.{Build, base, post, Post, Before, Good, on-contour}
+use Rattle.drawing.proofs.Build.{Build, base, post, Post, Good, on-contour}
 use Rattle.shift.proofs.Peaks.{moved-turn, scaled}
 
 -- ---- what is kept. g u: the place on the contour of u's group
 pub record Left (s : Places) (g : ℕ → ℕ) (a b : ℕ) : Type 0 where
-  pub before : Before s a b
+  pub far : s .x a < s .x b
   pub ord : g a ≤ g b
 
 -- v over two neighbours of its run
 pub record HeldPair (s : Places) (g : ℕ → ℕ) (v a b : ℕ) : Type 0 where
   pub turn : PositiveArea s a b v
+  pub far : s .x a < s .x b
   pub from : g a ≤ g v
   pub to : g v ≤ g b
   pub low-a : g v < g b → s .y a ≤ s .y v
@@ -36,11 +37,11 @@ HeldAll s g (base a b) = Left s g a b
 HeldAll s g (post L p M q R v B) = HeldRun s g p M q v × HeldAll s g B
 
 pub good : (s : Places) (g : ℕ → ℕ) {C : List ℕ} (B : Build C) → HeldAll s g B → Good s B
-good s g (base a b) k = k .before
+good s g (base a b) k = omega (arith, k)
 good s g (post L p M q R v B) k = (
   record {
-    left = k .0 .left .before;
-    right = k .0 .right .before;
+    left = omega (arith, k .0 .left);
+    right = omega (arith, k .0 .right);
     over = chain-map (λ a b h. h .turn) (p ∷ (M ++ q ∷ [])) (k .0 .run);
   },
   good s g B (k .1),
@@ -58,10 +59,7 @@ module _ (s s' : Places) (g g' : ℕ → ℕ) where
 
   module _ {Here : ℕ → Type 0} (m : Slides Here) where
     left-kept : (a b : ℕ) → Here a → Here b → Left s g a b → Left s' g' a b
-    left-kept a b ia ib l =
-        let o = m .order a b ia ib (l .ord) in
-        let tie : x' b ≤ x' a → y' a < y' b = λ h. omega (arith, o, l .before .tie (omega (arith, o)), m .level a ia, m .level b ib) in
-        record { before = record { le = omega (arith, o, l .before .le); tie = tie }; ord = o .1 }
+    left-kept a b ia ib l = omega (arith, l, m .order a b ia ib (l .ord))
 
     held-kept : (v a b : ℕ) → Here v → Here a → Here b → HeldPair s g v a b → HeldPair s' g' v a b
     held-kept v a b iv ia ib h =
@@ -78,6 +76,7 @@ module _ (s s' : Places) (g g' : ℕ → ℕ) where
               (omega (arith, m .right a ia)) (omega (arith, m .right a ia, o)) (omega (arith, m .right a ia, o, r))
               (scaled γ (λ k. h .low-b (by-le (g v) (g a) (λ l. absurd (omega (arith, m .order v a iv ia l))) (λ l. l))))
               (scaled β (λ k. h .low-a (by-le (g b) (g v) (λ l. absurd (omega (arith, m .order b v ib iv l))) (λ l. l)))) (h .turn));
+          far = omega (arith, h .far, o, r);
           from = o .1;
           to = r .1;
           low-a = λ k. omega (arith, h .low-a (back-b k), m .level a ia, m .level v iv);

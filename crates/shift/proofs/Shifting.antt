@@ -146,6 +146,7 @@ module _ (s s' : Places) (g g' : ℕ → ℕ) (width : ℕ) (L : List ℕ) (p : 
             peak (x' a) (y' a) (x' b) (y' b) (x' v) (y' v) α β γ δ
             (omega (arith, t .sum)) (omega (arith, t .dif)) (omega (arith, t .above-a, S .v-sum)) (omega (arith, t .below-a, S .v-dif))
             (positive α β γ δ (omega (arith, t .above-a, S .v-sum)) (omega (arith, t .dif, t .below-a, t .below-b, S .v-dif)) (omega (arith, t .far)));
+        far = t .far;
         from = t .from;
         to = t .to;
         low-a = λ h. omega (arith, t, S .v-sum, S .v-dif);

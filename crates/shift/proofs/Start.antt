@@ -29,7 +29,15 @@ module _ (s : Places) (g : ℕ → ℕ) (a b c : ℕ) (A : Corner s g a 0 0 0) (
   turn = rw (A .isX, A .isY, B .isX, B .isY, C .isX, C .isY) (omega arith)
 
   held : HeldPair s g c a b
-  held = record { turn = turn; from = omega (arith, A, C); to = omega (arith, B, C); low-a = omega (arith, A, C); low-b = omega (arith, B, C) }
+  held =
+      record {
+        turn = turn;
+        far = omega (arith, A, B);
+        from = omega (arith, A, C);
+        to = omega (arith, B, C);
+        low-a = omega (arith, A, C);
+        low-b = omega (arith, B, C);
+      }
 
   at : (u : ℕ) → In u (a ∷ c ∷ b ∷ []) → (s .y u ≤ s .x u) × (s .x u + s .y u ≤ 2) × ((s .x u + s .y u) % 2 ≡ 0)
   at u (inl e) = rw e (omega (arith, A))

@@ -5,7 +5,7 @@ use mathlib.Core.Logic.{_⊎_, inl, inr, _≢_}
 use mathlib.Core.List.{List, [], _∷_, _++_, flatMap}
 use native.Mathlib.Omega.{arith}
 use lib.ListN.{length, length-append, List·getD-append}
-use Rattle.words.specs.Lists.{In, lastOf, Head, Adj}
+use Rattle.words.specs.Lists.{In, lastOf, Head}
 use Rattle.words.specs.Positions.{post}
 use Rattle.words.proofs.Lists.{head-same, in-head, last-append, last-in, in-cases}
 use Rattle.rings.specs.Rings.{ring}
@@ -19,7 +19,7 @@ use Rattle.shift.proofs.Drawn.{Drawn}
 use Rattle.shift.proofs.Over.{before-run, after-run, inside, by-0, by-1, by-2}
 use Rattle.shift.proofs.Next.{OneStep, step, stepped}
 use Rattle.shift.proofs.Start.{three, start, first-post, second-post}
-use Rattle.shift.proofs.Tri.{Tri}
+use Rattle.shift.proofs.Tri.{Over}
 use Rattle.shift.proofs.DrawnSays.{Recast, recast}
 
 -- a stage drawn over its contour C, and each wire of the rings between its posts is one of the drawing
@@ -59,9 +59,9 @@ module _ (G : List (List ℕ)) (F : Faces G) (v1 v2 v3 : ℕ) (d12 : v1 ≢ v2) 
         right = ap (λ (n : ℕ). n + 4) (second-post v1 v2 v3 d12 d13 d23 .isX);
       }
 
-  pub third-tri : (a b : ℕ) → Adj (v1 ∷ v2 ∷ []) a b → Tri (tied-third .B) a b v3
+  pub third-over : Over (tied-third .B) v3 (v1 ∷ v2 ∷ [])
   unfolding tied-third
-  third-tri a b h = inl (refl, h)
+  third-over = inl (refl, refl)
 
 -- ---- the step
 module _ (G : List (List ℕ)) (t : Stage) (v : ℕ) (S : Step G t v) where
@@ -163,11 +163,11 @@ module _ (G : List (List ℕ)) (t : Stage) (v : ℕ) (S : Step G t v) where
           right = rw (e, e2) (omega (arith, last-moves (post (t .placed) 1) (post (t .placed) 2) (S .old .last), T .right));
         }
 
-    -- its triangles: those that were there, and those of v with its run
-    pub tri-old : (F : Faces G) (a b u : ℕ) → Tri (T .B) a b u → Tri (tied-next F .B) a b u
+    -- its runs: those that were there, and v's
+    pub over-old : (F : Faces G) (u : ℕ) (w : List ℕ) → Over (T .B) u w → Over (tied-next F .B) u w
     unfolding tied-next
-    tri-old F a b u h = inr (redrawn .tri a b u h)
+    over-old F u w h = inr (redrawn .over u w h)
 
-    pub tri-new : (F : Faces G) (a b : ℕ) → Adj (S .p ∷ (S .M ++ S .q ∷ [])) a b → Tri (tied-next F .B) a b v
+    pub over-new : (F : Faces G) → Over (tied-next F .B) v (S .p ∷ (S .M ++ S .q ∷ []))
     unfolding tied-next
-    tri-new F a b h = inl (refl, h)
+    over-new F = inl (refl, refl)
