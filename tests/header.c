@@ -51,7 +51,8 @@ int main(void)
 
     post = pgb_post(block, len, 4, 5);
     faults += differs("a name too high", post.reply, 17 * 65536UL);
-    faults += differs("a number beside a refusal", post.x | post.y | post.standing | post.first | post.second | post.fit_left | post.fit_right, 0);
+    faults += differs("a place beside a refusal", post.x | post.y | post.standing | post.first | post.second, 0);
+    faults += differs("an end beside a refusal", post.fit_left | post.fit_right, 0);
     faults += differs("check of a cut block", pgb_check(block, 6), 1 * 65536UL);
     return faults != 0;
 }

@@ -27,7 +27,7 @@ impl Place {
         self.run == self.entries
     }
 
-    fn from_last(&self) -> bool {
+    fn begins_last(&self) -> bool {
         self.start + 1 == self.entries
     }
 
@@ -42,7 +42,7 @@ type Way = (&'static str, fn(&Place) -> bool);
 
 const WAYS: [Way; 8] = [
     ("from the first entry on", |p| !p.whole() && p.start == 0),
-    ("from the last entry on", |p| !p.whole() && p.from_last()),
+    ("from the last entry on", |p| !p.whole() && p.begins_last()),
     ("over the end of the list", |p| {
         !p.whole() && p.end() >= p.entries
     }),
@@ -52,10 +52,14 @@ const WAYS: [Way; 8] = [
     ("up to the first entry", |p| {
         !p.whole() && p.end() == p.entries
     }),
-    ("the whole ring, v1 first", |p| p.whole() && p.start == 0),
-    ("the whole ring, v1 last", |p| p.whole() && p.from_last()),
-    ("the whole ring, v1 between", |p| {
-        p.whole() && p.start > 0 && !p.from_last()
+    ("around the whole ring, v1 first", |p| {
+        p.whole() && p.start == 0
+    }),
+    ("around the whole ring, v1 last", |p| {
+        p.whole() && p.begins_last()
+    }),
+    ("around the whole ring, v1 between", |p| {
+        p.whole() && p.start > 0 && !p.begins_last()
     }),
 ];
 
@@ -121,9 +125,9 @@ mod tests {
         assert_eq!(ways(5, 3, 4), ["from the last entry on", over]);
         assert_eq!(ways(5, 3, 3), [over, "up to the first entry"]);
         assert_eq!(ways(5, 4, 3), [over]);
-        assert_eq!(ways(4, 4, 0), ["the whole ring, v1 first"]);
-        assert_eq!(ways(4, 4, 2), ["the whole ring, v1 between"]);
-        assert_eq!(ways(4, 4, 3), ["the whole ring, v1 last"]);
+        assert_eq!(ways(4, 4, 0), ["around the whole ring, v1 first"]);
+        assert_eq!(ways(4, 4, 2), ["around the whole ring, v1 between"]);
+        assert_eq!(ways(4, 4, 3), ["around the whole ring, v1 last"]);
     }
 
     #[test]

@@ -18,8 +18,8 @@ const ALIKE: usize = 7;
 
 pub fn turned_lists(trial: &mut Trial) {
     let places = small_boards(trial);
-    let missing: Vec<String> = missing(&places).map(|place| format!("{place:?}")).collect();
-    none_left_out("small boards", &missing);
+    let missing = missing(&places).map(|place| format!("no run lay at {place:?}"));
+    none_left_out("small boards", &missing.collect::<Vec<_>>());
     for (name, boards) in every_sort(&mut trial.rng) {
         let mut ways = Ways::default();
         for board in &boards {
@@ -38,7 +38,7 @@ pub fn turned_lists(trial: &mut Trial) {
 
 fn none_left_out(boards: &str, missing: &[String]) {
     if !missing.is_empty() {
-        println!("outside: {boards}: never came {}", missing.join(", "));
+        println!("outside: {boards}: {}", missing.join(", "));
         exit(1);
     }
 }
