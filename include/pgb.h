@@ -25,11 +25,12 @@ uint32_t pgb_check(const uint8_t *block, size_t len);
  * buffer is as it came. */
 uint32_t pgb_sheet(const uint8_t *block, size_t len, size_t stage, uint16_t *buffer, size_t room);
 
-/* standing 0 waiting (first = second = 0), 1 on the contour (left, right), 2 covered (the covering post, twice); a refusal has zeros beside
- * its reply. */
+/* standing 0 waiting (first = second = 0), 1 on the contour (left, right), 2 covered (the covering post, twice). fit_left, fit_right: the posts
+ * between which the post was fitted, the leftmost and the rightmost of its neighbours that were there before it; the same at every later stage.
+ * The first two posts of the order and a waiting post have their own name twice. A refusal has zeros beside its reply. */
 typedef struct {
     uint32_t reply;
-    uint16_t x, y, standing, first, second;
+    uint16_t x, y, standing, first, second, fit_left, fit_right;
 } pgb_post_reply;
 
 /* The post's record at that stage. */

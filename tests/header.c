@@ -6,13 +6,15 @@
 /* The record as the library returns it: a compiler that lays it out otherwise refuses this (C99 has no _Static_assert). */
 #define ASSERTED(name, fact) typedef char name[(fact) ? 1 : -1]
 
-ASSERTED(size_is_16, sizeof(pgb_post_reply) == 16);
+ASSERTED(size_is_20, sizeof(pgb_post_reply) == 20);
 ASSERTED(reply_at_0, offsetof(pgb_post_reply, reply) == 0);
 ASSERTED(x_at_4, offsetof(pgb_post_reply, x) == 4);
 ASSERTED(y_at_6, offsetof(pgb_post_reply, y) == 6);
 ASSERTED(standing_at_8, offsetof(pgb_post_reply, standing) == 8);
 ASSERTED(first_at_10, offsetof(pgb_post_reply, first) == 10);
 ASSERTED(second_at_12, offsetof(pgb_post_reply, second) == 12);
+ASSERTED(fit_left_at_14, offsetof(pgb_post_reply, fit_left) == 14);
+ASSERTED(fit_right_at_16, offsetof(pgb_post_reply, fit_right) == 16);
 
 static int differs(const char *what, unsigned long got, unsigned long wanted)
 {
@@ -41,6 +43,16 @@ int main(void)
     faults += differs("x", post.x, 2) + differs("y", post.y, 2);
     faults += differs("standing", post.standing, 1);
     faults += differs("left", post.first, 0) + differs("right", post.second, 1);
+    faults += differs("left end", post.fit_left, 0) + differs("right end", post.fit_right, 1);
+
+    post = pgb_post(block, len, 4, 4);
+    faults += differs("a waiting post", post.reply, 0);
+    faults += differs("its left end", post.fit_left, 4) + differs("its right end", post.fit_right, 4);
+
+    post = pgb_post(block, len, 4, 5);
+    faults += differs("a name too high", post.reply, 17 * 65536UL);
+    faults += differs("a place beside a refusal", post.x | post.y | post.standing | post.first | post.second, 0);
+    faults += differs("an end beside a refusal", post.fit_left | post.fit_right, 0);
     faults += differs("check of a cut block", pgb_check(block, 6), 1 * 65536UL);
     return faults != 0;
 }

@@ -14,6 +14,15 @@ impl Board {
         self.order.len()
     }
 
+    /// The position of each name, counted from 0.
+    pub fn positions(&self) -> Vec<usize> {
+        let mut positions = vec![0; self.posts()];
+        for (i, &name) in self.order.iter().enumerate() {
+            positions[name as usize] = i;
+        }
+        positions
+    }
+
     /// The block of this board, with its sum.
     pub fn block(&self) -> Vec<u8> {
         let mut block = layout::header(self.order.len() as u16);

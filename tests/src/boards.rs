@@ -8,10 +8,12 @@
 mod built;
 mod maps;
 mod orders;
+mod turns;
 
 pub use built::{constructed, every_board, Habit, HABITS};
 pub use maps::{beside, flip, grid_torus, nested, seven_post_torus, stacked, two_poles, with_hubs};
 pub use orders::{disguised, ordered, ordered_from, permute};
+pub use turns::{every_turn, turned_by, with_v1_at};
 
 use crate::board::Board;
 use crate::rng::Rng;

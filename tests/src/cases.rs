@@ -1,10 +1,11 @@
 //! The numbered cases E1 to E16 of docs/RULES.md, each compared and asserted as it
-//! stands there.
+//! stands there, and the ends of every run of D and of a board worked out by hand.
 
 use crate::board::{d, mend_sum, t, Board};
+use crate::boards::two_poles;
 use crate::compare::Tester;
 use crate::layout::{self, FEWEST, MOST, N_AT};
-use crate::reply::{Record, Refusal, Standing};
+use crate::reply::{Fit, Record, Refusal, Standing};
 
 fn refused<T>(number: u16, place: u16) -> Result<T, Refusal> {
     Err(Refusal { number, place })
@@ -29,6 +30,7 @@ pub fn run(tester: &mut Tester) {
     refused_lists(tester);
     stages_and_rooms(tester);
     posts(tester);
+    ends(tester);
 }
 
 fn boards(tester: &mut Tester) {
@@ -140,11 +142,45 @@ fn stages_and_rooms(tester: &mut Tester) {
 /// Cases 7 and 8.
 fn posts(tester: &mut Tester) {
     let d = d().block();
-    let record = |x, y, standing| Ok(Record { x, y, standing });
+    let record = |x, y, standing, (left, right)| {
+        let fit = Fit { left, right };
+        Ok(Record {
+            x,
+            y,
+            standing,
+            fit,
+        })
+    };
     let between = Standing::OnContour { left: 0, right: 1 };
-    assert_eq!(tester.post(&d, 3, 2), record(1, 1, between));
+    assert_eq!(tester.post(&d, 3, 2), record(1, 1, between, (0, 1)));
     let covered = Standing::Covered { by: 3 };
-    assert_eq!(tester.post(&d, 4, 2), record(2, 1, covered));
-    assert_eq!(tester.post(&d, 4, 4), record(0, 0, Standing::Waiting));
+    assert_eq!(tester.post(&d, 4, 2), record(2, 1, covered, (0, 1)));
+    let waiting = record(0, 0, Standing::Waiting, (4, 4));
+    assert_eq!(tester.post(&d, 4, 4), waiting);
     assert_eq!(tester.post(&d, 4, 5), refused(17, 0));
+}
+
+/// An octahedron: the runs of positions 3 to 6 are 0 1; 4 1; 0 4 2; 0 3 2 1.
+pub fn octahedron() -> Board {
+    Board {
+        order: vec![0, 1, 4, 2, 3, 5],
+        rings: two_poles(6),
+    }
+}
+
+/// The ends by position at every stage: v1 and v2 have no run, and what waits tells
+/// itself.
+fn ends(tester: &mut Tester) {
+    let of_d = [(0, 0), (1, 1), (0, 1), (0, 1), (0, 1)];
+    let of_octahedron = [(0, 0), (1, 1), (0, 1), (4, 1), (0, 2), (0, 1)];
+    for (board, ends) in [(d(), &of_d[..]), (octahedron(), &of_octahedron)] {
+        let block = board.block();
+        for stage in 3..=board.posts() {
+            for (i, (&name, &ends)) in board.order.iter().zip(ends).enumerate() {
+                let (left, right) = if i < stage { ends } else { (name, name) };
+                let record = tester.post(&block, stage, name.into());
+                assert_eq!(record.map(|record| record.fit), Ok(Fit { left, right }));
+            }
+        }
+    }
 }

@@ -3,8 +3,9 @@
 
 use crate::board::Board;
 use crate::contours::{self, Condition};
+use crate::fits::{Fits, Place};
 use crate::refusals::{Service, BY_POSITION};
-use crate::reply::{post_reply, readable, word, Record, Refusal, Standing};
+use crate::reply::{post_reply, readable, word, PostReply, Record, Refusal, Standing};
 use crate::tally::Tally;
 use crate::{ffi, geometry, paper, runs, text};
 use std::fmt::Display;
@@ -53,13 +54,25 @@ impl Tester {
 
     pub fn post(&mut self, block: &[u8], stage: usize, name: usize) -> Result<Record, Refusal> {
         let expected = paper::post(block, stage, name);
+        self.told(block, stage, name, expected);
+        expected
+    }
+
+    /// The unit's reply to post, which is to be this.
+    fn told(
+        &mut self,
+        block: &[u8],
+        stage: usize,
+        name: usize,
+        expected: Result<Record, Refusal>,
+    ) -> PostReply {
         let got = ffi::post(block, stage, name);
         self.count(Service::Post, expected.err());
         if got != post_reply(expected) {
             let call = format!("post, stage {stage}, name {name}");
             differs(&call, block, got, post_reply(expected));
         }
-        expected
+        got
     }
 
     /// Count a call that was accepted or refused.
@@ -69,18 +82,46 @@ impl Tester {
         self.tally.replies.count(service, number, 1);
     }
 
+    /// The sheet of a stage that a right board has.
+    fn right_sheet(&mut self, block: &[u8], stage: usize) -> Vec<u16> {
+        let sheet = self.sheet(block, stage, 2 * stage);
+        sheet
+            .unwrap_or_else(|_| fails(&format!("stage {stage} of a right board is refused"), block))
+    }
+
+    /// Test the ends that the records of these posts of an accepted board tell at these
+    /// stages, which ascend, on the sheets: where the runs lie in their lists.
+    pub fn fits(&mut self, board: &Board, stages: &[usize], names: &[u16]) -> Vec<Place> {
+        let block = board.block();
+        let mut fits = Fits::new(board);
+        let mut places = Vec::new();
+        for &stage in stages {
+            let sheet = self.right_sheet(&block, stage);
+            let records = paper::records(&block, stage).expect("it has a sheet");
+            for &name in names {
+                let record = records[usize::from(name)];
+                let got = self.told(&block, stage, name.into(), Ok(record));
+                match fits.tell(&sheet, name, got.fit()) {
+                    Ok(place) => places.extend(place),
+                    Err(fault) => {
+                        let what = format!("post, stage {stage}, name {name}: {got}: {fault}");
+                        fails(&what, &block);
+                    }
+                }
+                self.tally.ends += 1;
+            }
+        }
+        places.iter().for_each(|place| self.tally.ways.count(place));
+        places
+    }
+
     /// Test the third demand and the turn of every inner triangle on the sheets
     /// of a board at these stages, which ascend.
     pub fn geometry(&mut self, board: &Board, stages: &[usize]) {
         let block = board.block();
         let mut before: Option<(usize, Vec<u16>)> = None;
         for &stage in stages {
-            let Ok(sheet) = self.sheet(&block, stage, 2 * stage) else {
-                fails(
-                    &format!("stage {stage} of a right board is refused"),
-                    &block,
-                );
-            };
+            let sheet = self.right_sheet(&block, stage);
             self.tally.sheets += 1;
             if let Some(fault) = geometry::stage_fault(board, &sheet) {
                 fails(&format!("stage {stage}: {fault}"), &block);

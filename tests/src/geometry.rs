@@ -12,18 +12,9 @@ fn points(sheet: &[u16]) -> Vec<Point> {
     sheet.chunks_exact(2).map(point).collect()
 }
 
-/// The position of each name, counted from 0.
-fn positions(board: &Board) -> Vec<usize> {
-    let mut position = vec![0; board.posts()];
-    for (i, &name) in board.order.iter().enumerate() {
-        position[name as usize] = i;
-    }
-    position
-}
-
 /// The wires of stage k (M1), by position counted from 0.
 fn wires(board: &Board, k: usize) -> Vec<(usize, usize)> {
-    let position = positions(board);
+    let position = board.positions();
     let mut wires = Vec::new();
     for (u, &name) in board.order[..k].iter().enumerate() {
         let ends = board.rings[name as usize].iter();
@@ -39,7 +30,7 @@ fn wires(board: &Board, k: usize) -> Vec<(usize, usize)> {
 /// three corners: u, a, b where b follows a at u and all three are placed. The
 /// outer triangle v2, v1, vn is left out, at whichever corner it is read.
 fn inner_triangles(board: &Board, k: usize) -> Vec<[usize; 3]> {
-    let position = positions(board);
+    let position = board.positions();
     let last = board.posts() - 1;
     let outer = [[1, 0, last], [0, last, 1], [last, 1, 0]];
     let mut triangles = Vec::new();

@@ -11,6 +11,7 @@ pub mod compare;
 pub mod contours;
 pub mod damage;
 pub mod ffi;
+pub mod fits;
 pub mod geometry;
 pub mod layout;
 pub mod linear;

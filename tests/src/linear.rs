@@ -9,7 +9,7 @@
 mod drawing;
 
 use crate::layout::{FEWEST, MOST};
-use crate::reply::{Record, Refusal, Standing};
+use crate::reply::{Fit, Record, Refusal, Standing};
 use drawing::Drawing;
 
 /// Check a block: its number of posts, or a refusal.
@@ -46,7 +46,12 @@ pub fn post(block: &[u8], stage: usize, name: usize) -> Result<Record, Refusal> 
         return refuse(17, 0);
     }
     let drawing = Drawing::at_stage(&board, stage);
-    let standing = if board.position[name] as usize >= stage {
+    let position = board.position[name] as usize;
+    let (left, right) = match position {
+        2.. if position < stage => board.run_ends[position],
+        _ => (name as u16, name as u16),
+    };
+    let standing = if position >= stage {
         Standing::Waiting
     } else if drawing.covered_by[name] != NONE {
         Standing::Covered {
@@ -62,7 +67,13 @@ pub fn post(block: &[u8], stage: usize, name: usize) -> Result<Record, Refusal> 
         x: drawing.x[name] as u16,
         y: drawing.y[name] as u16,
         standing,
+        fit: Fit { left, right },
     })
+}
+
+/// Both ends of each run by position, from the third on, or a refusal.
+pub fn ends(block: &[u8]) -> Result<Vec<(u16, u16)>, Refusal> {
+    Ok(Board::read(block)?.run_ends.split_off(2))
 }
 
 /// No post.

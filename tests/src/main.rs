@@ -19,7 +19,7 @@ outside PART [SEED]        run one part, or `all`; the seed is a whole number, o
 outside PART SEED FILE     the same, and write what was counted to a file
 outside sum FOLDER         add up what all parts have counted, in files with their names
 outside parts              list the parts' names
-outside stand-in PROGRAM   answer as the program `sheet`, `stage` or `why` should, where there are none to try
+outside stand-in PROGRAM   answer as the program `sheet`, `stage`, `fit` or `why` should, where there are none to try
 ";
 
 fn main() -> ExitCode {

@@ -4,9 +4,10 @@
 //! implementation.
 
 mod drawing;
+mod order;
 mod print;
 
-pub use print::{number, refused_text, sheet_text, usage_text, why_text};
+pub use print::{fit_text, number, refused_text, sheet_text, usage_text, why_text};
 
 use crate::layout::{FEWEST, MOST};
 use crate::reply::{Record, Refusal};
@@ -40,7 +41,16 @@ pub fn post(block: &[u8], stage: usize, name: usize) -> Result<Record, Refusal> 
     if name >= board.n {
         return refuse(17, 0);
     }
-    Ok(Drawing::at_stage(&board, stage).record(name))
+    Ok(board.record(&Drawing::at_stage(&board, stage), stage, name))
+}
+
+/// The records of all posts at a stage by name, or a refusal.
+pub fn records(block: &[u8], stage: usize) -> Result<Vec<Record>, Refusal> {
+    let board = accepted(block)?;
+    stage_allowed(&board, stage)?;
+    let drawing = Drawing::at_stage(&board, stage);
+    let record = |name| board.record(&drawing, stage, name);
+    Ok((0..board.n).map(record).collect())
 }
 
 fn refuse<T>(number: u16, place: usize) -> Result<T, Refusal> {
@@ -175,6 +185,17 @@ impl Board {
         self.order[position - 1]
     }
 
+    /// A post's record at a stage, of which this is the drawing.
+    fn record(&self, drawing: &Drawing, stage: usize, name: usize) -> Record {
+        let (x, y) = drawing.point(name);
+        Record {
+            x,
+            y,
+            standing: drawing.standing(name),
+            fit: self.fit(name, stage),
+        }
+    }
+
     /// Step 9 (G3): the lists in the order of names, the entries of each from its
     /// first on. The first bad entry decides.
     fn rings(&self) -> Result<(), Refusal> {
@@ -230,62 +251,6 @@ impl Board {
         }
         Ok(())
     }
-
-    /// For each entry of vk's ring, whether it stands in an earlier position.
-    fn earlier(&self, k: usize) -> Vec<bool> {
-        let ring = &self.lists[self.v(k)];
-        ring.iter().map(|&v| self.positions[v] < k).collect()
-    }
-
-    /// Steps 12 and 13 at position k.
-    ///
-    /// What is asserted after them is the claim that a refusal for a post
-    /// without later neighbours isn't needed: it is tried on every block that
-    /// comes here. As long as 12 and 13 don't come, each run is a stretch of
-    /// the contour, a ring of wires with v1 v2 among them. A post below position
-    /// n with earlier neighbours alone would have the whole contour around it,
-    /// and so v1 following v2 in its ring; then it would follow v1 at v2, where
-    /// step 11 has found vn.
-    fn canonical_at(&self, k: usize) -> Result<(), Refusal> {
-        let earlier = self.earlier(k);
-        if earlier.iter().filter(|&&is| is).count() < 2 {
-            return refuse(12, k);
-        }
-        if run_starts(&earlier).len() > 1 {
-            return refuse(13, k);
-        }
-        assert!(
-            k == self.n || earlier.contains(&false),
-            "the claim that no block can show 14: position {k} passes 12 and 13 \
-             and has no later neighbour"
-        );
-        Ok(())
-    }
-
-    /// The run of vk (O6): its earlier neighbours in the turn of the ring. Where
-    /// they are all of it, for vn, the first is v1.
-    fn run(&self, k: usize) -> Vec<usize> {
-        let ring = &self.lists[self.v(k)];
-        let earlier = self.earlier(k);
-        let start = if k == self.n {
-            ring.iter().position(|&v| v == self.v(1)).unwrap()
-        } else {
-            run_starts(&earlier)[0]
-        };
-        let turned = (0..ring.len()).map(|i| (start + i) % ring.len());
-        turned
-            .take_while(|&i| earlier[i])
-            .map(|i| ring[i])
-            .collect()
-    }
-}
-
-/// The places in a ring where a run of earlier neighbours starts: the entry
-/// is earlier and the one before it isn't. There is none if all are earlier.
-fn run_starts(earlier: &[bool]) -> Vec<usize> {
-    let before = |i: usize| earlier[(i + earlier.len() - 1) % earlier.len()];
-    let starts = (0..earlier.len()).filter(|&i| earlier[i] && !before(i));
-    starts.collect()
 }
 
 #[cfg(test)]

@@ -3,6 +3,7 @@
 mod lists;
 mod printed;
 mod right;
+mod turns;
 mod wrong;
 
 use crate::cases;
@@ -27,8 +28,9 @@ macro_rules! parts {
 /// All parts. The longest come first, so that two processes end at about the same time.
 pub const PARTS: &[Part] = parts![
     "cases", "the cases E1 to E16 of docs/RULES.md": |trial| cases::run(&mut trial.tester);
-    "programs", "what the programs sheet, stage and why print": printed::programs;
+    "programs", "what the programs sheet, stage, fit and why print": printed::programs;
     "large", "random boards up to the most posts there can be": right::large_boards;
+    "turns", "lists that begin with any entry, and where runs lie in them": turns::turned_lists;
     "small", "every board with every order up to 8 posts": right::every_small_board;
     "orders", "every order of every board up to 7 posts": right::every_order_of_small_boards;
     "middling", "random boards up to 60 posts, every stage": right::middling_boards;

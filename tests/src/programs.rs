@@ -1,14 +1,16 @@
-//! The programs `sheet`, `stage` and `why`, run as processes with a block as their
-//! input: every byte that they print is compared with what the rules say.
+//! The programs `sheet`, `stage`, `fit` and `why`, run as processes with a block as
+//! their input: every byte that they print is compared with what the rules say.
 
 mod stand_in;
 
 pub use stand_in::stand_in;
 
 use crate::compare::{fails, Tester};
+use crate::fits;
 use crate::paper;
 use crate::refusals::Service;
 use crate::reply::Refusal;
+use crate::text;
 use std::env;
 use std::ffi::{OsStr, OsString};
 use std::fmt::{self, Display};
@@ -25,15 +27,20 @@ pub enum Call<'a> {
     Sheet,
     /// With the word that says the stage, or without.
     Stage(Option<&'a [u8]>),
-    /// With a word, at which it does not look, or without.
+    /// These with a word, at which they do not look, or without.
+    Fit(Option<&'a [u8]>),
     Why(Option<&'a [u8]>),
 }
+
+/// The names of the programs.
+const NAMES: [&str; 4] = ["sheet", "stage", "fit", "why"];
 
 impl Call<'_> {
     fn program(self) -> &'static str {
         match self {
             Call::Sheet => "sheet",
             Call::Stage(_) => "stage",
+            Call::Fit(_) => "fit",
             Call::Why(_) => "why",
         }
     }
@@ -42,6 +49,7 @@ impl Call<'_> {
         match self {
             Call::Sheet => Service::SheetProgram,
             Call::Stage(_) => Service::StageProgram,
+            Call::Fit(_) => Service::FitProgram,
             Call::Why(_) => Service::WhyProgram,
         }
     }
@@ -49,21 +57,22 @@ impl Call<'_> {
     fn word(&self) -> Option<&[u8]> {
         match self {
             Call::Sheet => None,
-            Call::Stage(word) | Call::Why(word) => *word,
+            Call::Stage(word) | Call::Fit(word) | Call::Why(word) => *word,
         }
     }
 
     /// What it is to print of a block, and the reply that this tells; a usage line tells none.
     fn right(self, block: &[u8]) -> (String, Option<Result<(), Refusal>>) {
-        let stage = match self {
+        let text = match self {
             Call::Why(_) => return (paper::why_text(block), Some(paper::check(block).map(drop))),
-            Call::Sheet => None,
+            Call::Sheet => paper::sheet_text(block, None),
+            Call::Fit(_) => paper::fit_text(block),
             Call::Stage(word) => match word.and_then(paper::number) {
                 None => return (paper::usage_text(), None),
-                stage => stage,
+                stage => paper::sheet_text(block, stage),
             },
         };
-        match paper::sheet_text(block, stage) {
+        match text {
             Ok(text) => (text, Some(Ok(()))),
             Err(refusal) => (paper::refused_text(refusal), Some(Err(refusal))),
         }
@@ -118,13 +127,13 @@ impl Programs {
             let own = env::current_exe().map_err(|error| error.to_string())?;
             return Ok(Programs::StandIn(own));
         };
-        for name in ["sheet", "stage", "why"] {
+        for name in NAMES {
             let path = folder.join(name);
             if !path.is_file() {
                 let path = path.display();
+                let all = NAMES.join(" ");
                 return Err(format!(
-                    "there is no program {path}: run 'rt check sheet stage why' first, or set \
-                     PGB_BIN"
+                    "there is no program {path}: run 'rt check {all}' first, or set PGB_BIN"
                 ));
             }
         }
@@ -186,12 +195,24 @@ impl Programs {
         let ended = (!status.success()).then(|| "it should end with status 0".to_string());
         let silent = output.stderr.is_empty();
         let spoke = (!silent).then(|| "nothing belongs on standard error".to_string());
-        if let Some(fault) = fault.or(ended).or(spoke) {
+        let apart = match (call, reply) {
+            (Call::Fit(_), Some(Ok(()))) => test_fits(tester, block, &output.stdout).err(),
+            _ => None,
+        };
+        if let Some(fault) = fault.or(ended).or(spoke).or(apart) {
             let said = output.stderr.escape_ascii();
             let rest = format!("{status}, standard error \"{said}\"");
             fails(&format!("{call}: {fault} ({rest})"), block);
         }
     }
+}
+
+/// The ends that are printed of an accepted block, on the points printed beside them.
+fn test_fits(tester: &mut Tester, block: &[u8], printed: &[u8]) -> Result<(), String> {
+    let printed = String::from_utf8_lossy(printed);
+    let lines = fits::test_lines(&text::board(block), &printed)?;
+    tester.tally.fits += lines as u64;
+    Ok(())
 }
 
 /// Run a command; its input is written, so many bytes at a time, while what it

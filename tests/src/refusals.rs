@@ -2,7 +2,7 @@
 //! in a whole run, and no other may.
 
 use std::collections::BTreeMap;
-use Service::{Check, Post, Sheet, SheetProgram, StageProgram, WhyProgram};
+use Service::{Check, FitProgram, Post, Sheet, SheetProgram, StageProgram, WhyProgram};
 
 /// The services, and the programs that print what they reply.
 #[derive(Clone, Copy, PartialEq, Eq, PartialOrd, Ord, Debug)]
@@ -12,13 +12,22 @@ pub enum Service {
     Post,
     SheetProgram,
     StageProgram,
+    FitProgram,
     WhyProgram,
 }
 
-pub const SERVICES: [Service; 6] = [Check, Sheet, Post, SheetProgram, StageProgram, WhyProgram];
+pub const SERVICES: [Service; 7] = [
+    Check,
+    Sheet,
+    Post,
+    SheetProgram,
+    StageProgram,
+    FitProgram,
+    WhyProgram,
+];
 
 /// The programs among them.
-pub const PROGRAMS: [Service; 3] = [SheetProgram, StageProgram, WhyProgram];
+pub const PROGRAMS: [Service; 4] = [SheetProgram, StageProgram, FitProgram, WhyProgram];
 
 impl Service {
     pub fn name(self) -> &'static str {
@@ -28,6 +37,7 @@ impl Service {
             Post => "post",
             SheetProgram => "bin/sheet",
             StageProgram => "bin/stage",
+            FitProgram => "bin/fit",
             WhyProgram => "bin/why",
         }
     }
@@ -36,7 +46,8 @@ impl Service {
 /// A refusal's number, the services that can give it, and why no other can.
 type Line = (u16, &'static [Service], &'static str);
 
-const NO_STAGE: &str = "check and bin/why are asked for no stage, bin/sheet prints the last one";
+const NO_STAGE: &str =
+    "check and bin/why are asked for no stage, bin/sheet and bin/fit print the last one";
 const NO_BUFFER: &str = "check and post are lent no buffer, and the programs' is long enough";
 
 /// The refusals, a line for each number.
@@ -185,6 +196,9 @@ mod tests {
             (Post, 99),
             (SheetProgram, 15),
             (StageProgram, 16),
+            (FitProgram, 14),
+            (FitProgram, 15),
+            (FitProgram, 17),
             (WhyProgram, 14),
             (WhyProgram, 15),
             (WhyProgram, 17),
@@ -205,7 +219,8 @@ mod tests {
         for number in BY_ENTRY {
             let mut replies = all_that_can_come();
             replies.0.remove(&(WhyProgram, number));
-            let never = [format!("bin/why never gave {number}")];
+            replies.0.remove(&(FitProgram, number));
+            let never = ["fit", "why"].map(|name| format!("bin/{name} never gave {number}"));
             assert_eq!(replies.never(&PROGRAMS), never);
             assert_eq!(replies.faults(true), never);
         }

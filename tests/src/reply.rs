@@ -18,12 +18,21 @@ pub enum Standing {
     Covered { by: u16 },
 }
 
+/// The posts between which a post was fitted: the first and the last of its run.
+/// A post without a run, or one that waits, has itself at both ends.
+#[derive(Clone, Copy, PartialEq, Eq, Debug)]
+pub struct Fit {
+    pub left: u16,
+    pub right: u16,
+}
+
 /// A post's record at a stage.
 #[derive(Clone, Copy, PartialEq, Eq, Debug)]
 pub struct Record {
     pub x: u16,
     pub y: u16,
     pub standing: Standing,
+    pub fit: Fit,
 }
 
 /// A post's record as the C library returns it.
@@ -36,22 +45,36 @@ pub struct PostReply {
     pub standing: u16,
     pub first: u16,
     pub second: u16,
+    pub fit_left: u16,
+    pub fit_right: u16,
 }
 
 /// What header.c asserts of the C struct.
 const _: () = {
-    assert!(size_of::<PostReply>() == 16 && align_of::<PostReply>() == 4);
+    assert!(size_of::<PostReply>() == 20 && align_of::<PostReply>() == 4);
     assert!(offset_of!(PostReply, reply) == 0);
     assert!(offset_of!(PostReply, x) == 4 && offset_of!(PostReply, y) == 6);
     assert!(offset_of!(PostReply, standing) == 8);
     assert!(offset_of!(PostReply, first) == 10 && offset_of!(PostReply, second) == 12);
+    assert!(offset_of!(PostReply, fit_left) == 14 && offset_of!(PostReply, fit_right) == 16);
 };
 
 impl Display for PostReply {
     fn fmt(&self, f: &mut fmt::Formatter) -> fmt::Result {
         let reply = readable(self.reply);
         let standing = [self.standing, self.first, self.second];
-        write!(f, "{reply} at ({}, {}) {standing:?}", self.x, self.y)
+        write!(f, "{reply} at ({}, {}) {standing:?}", self.x, self.y)?;
+        write!(f, " between {} and {}", self.fit_left, self.fit_right)
+    }
+}
+
+impl PostReply {
+    /// The ends that it tells.
+    pub fn fit(&self) -> Fit {
+        Fit {
+            left: self.fit_left,
+            right: self.fit_right,
+        }
     }
 }
 
@@ -95,5 +118,7 @@ pub fn post_reply(reply: Result<Record, Refusal>) -> PostReply {
         standing,
         first,
         second,
+        fit_left: record.fit.left,
+        fit_right: record.fit.right,
     }
 }

@@ -19,10 +19,7 @@ pub struct Neighbours {
 
 /// The neighbours of the post in each position.
 pub fn by_position(board: &Board) -> Vec<Neighbours> {
-    let mut position = vec![0; board.posts()];
-    for (i, &name) in board.order.iter().enumerate() {
-        position[name as usize] = i;
-    }
+    let position = board.positions();
     let neighbours = |(i, &name): (usize, &u16)| {
         let ring = &board.rings[name as usize];
         let earlier: Vec<bool> = ring.iter().map(|&v| position[v as usize] < i).collect();

@@ -1,6 +1,7 @@
 //! What a run counts. Processes that run a part each write theirs to a file,
 //! and the files are added up.
 
+use crate::fits::Ways;
 use crate::refusals::{Replies, SERVICES};
 use std::fmt::Write;
 
@@ -11,6 +12,8 @@ macro_rules! counts {
         pub struct Tally {
             $($(#[$what])* pub $name: u64,)*
             pub replies: Replies,
+            /// How the runs lay whose ends were tested.
+            pub ways: Ways,
         }
 
         impl Tally {
@@ -35,6 +38,12 @@ counts! {
     triangles,
     /// Contours told by records, compared with a face.
     contours,
+    /// Records whose ends were tested on the sheet of their stage.
+    ends,
+    /// Lines of `fit` whose ends were tested on the points of all its lines.
+    fits,
+    /// Boards whose lists were turned.
+    turned,
     /// Orders compared with Chrobak and Nakano's conditions (X2): accepted, and
     /// they hold at every stage; accepted and compared at some stages alone;
     /// refused, by the condition that is broken first.
@@ -58,7 +67,8 @@ impl Tally {
         self.kept + self.kept_at_some_stages + self.co1 + self.co2 + self.co3
     }
 
-    /// A line for each count, and for each number that a service gave.
+    /// A line for each count, for each number that a service gave, and for each way
+    /// in which runs lay.
     pub fn text(&mut self) -> String {
         let mut text = String::new();
         for (name, count) in self.counts() {
@@ -66,6 +76,9 @@ impl Tally {
         }
         for (service, number, times) in self.replies.each() {
             writeln!(text, "{} {number} {times}", service.name()).unwrap();
+        }
+        for (index, times) in self.ways.each() {
+            writeln!(text, "way {index} {times}").unwrap();
         }
         text
     }
@@ -83,6 +96,9 @@ impl Tally {
                 let mut counts = self.counts().into_iter();
                 *counts.find(|known| known.0 == name)?.1 += count.parse::<u64>().ok()?;
             }
+            ["way", index, times] => {
+                self.ways.add(index.parse().ok()?, times.parse().ok()?)?;
+            }
             [name, number, times] => {
                 let service = SERVICES.into_iter().find(|known| known.name() == name)?;
                 let (number, times) = (number.parse().ok()?, times.parse().ok()?);
@@ -93,11 +109,12 @@ impl Tally {
         Some(())
     }
 
-    /// Say what was counted. The whole run fails if a reply came that cannot,
-    /// or one never came that should; a part alone fails by the former only.
+    /// Say what was counted. The whole run fails if a reply came that cannot, or if a
+    /// reply or a run's way to lie never came that should; a part alone fails by the
+    /// former only.
     pub fn report(&self, whole: bool) -> Result<(), Vec<String>> {
         self.replies.print();
-        let faults = self.replies.faults(whole);
+        let faults = self.faults(whole);
         if !faults.is_empty() {
             return Err(faults);
         }
@@ -107,14 +124,23 @@ impl Tally {
         }
         self.report_boards();
         println!(
-            "{} runs of the programs sheet, stage and why: {} print a sheet, a refusal or what it \
-             means as the rules say, to the last byte, {} were given no number and say how to call",
+            "{} runs of the programs sheet, stage, fit and why: {} print a sheet, the fits, a \
+             refusal or what it means as the rules say, to the last byte, {} were given no number \
+             and say how to call",
             self.runs,
             self.runs - self.usages,
             self.usages
         );
         println!("outside: {} calls compared, 0 differences", self.calls);
         Ok(())
+    }
+
+    fn faults(&self, whole: bool) -> Vec<String> {
+        let mut faults = self.replies.faults(whole);
+        if whole {
+            faults.extend(self.ways.never());
+        }
+        faults
     }
 
     fn report_boards(&self) {
@@ -139,6 +165,16 @@ impl Tally {
             "{} contours told by records, each the exterior face of its stage",
             self.contours
         );
+        println!(
+            "{} records tell as their ends the outermost earlier neighbours on the sheet, the same \
+             at every later stage; {} lines of fit do too",
+            self.ends, self.fits
+        );
+        println!(
+            "{} boards with lists turned; in all lists runs lay",
+            self.turned
+        );
+        self.ways.print();
     }
 }
 
@@ -164,5 +200,20 @@ mod tests {
         assert_eq!(replies, [(Service::Check, 0, 2), (Service::Post, 17, 4)]);
         assert_eq!(sum.add("calls 1\nwires 2\n"), Err("wires 2".into()));
         assert_eq!(sum.add("calls one\n"), Err("calls one".into()));
+    }
+
+    #[test]
+    fn a_way_to_lie_that_never_came_fails_a_whole_run() {
+        let mut tally = Tally::default();
+        let ways = tally.ways.never();
+        assert_eq!(tally.faults(false), [""; 0]);
+        assert!(ways.iter().all(|way| tally.faults(true).contains(way)));
+        (0..ways.len()).for_each(|index| tally.ways.add(index, 1).unwrap());
+        assert_eq!(tally.ways.never(), [""; 0]);
+        let mut sum = Tally::default();
+        sum.add(&tally.text()).unwrap();
+        assert_eq!(sum.ways.never(), [""; 0]);
+        let beyond = format!("way {} 1", ways.len());
+        assert_eq!(sum.add(&beyond), Err(beyond.clone()));
     }
 }

@@ -75,6 +75,11 @@ pub fn parse(text: &str) -> Result<Board, TextError> {
     }
 }
 
+/// The board of a block that text can hold: one of which n, the length and the sum are right.
+pub fn board(block: &[u8]) -> Board {
+    parse(&show(block).text).expect("its text is whole")
+}
+
 fn number(word: &str, line: usize) -> Result<u16, TextError> {
     word.parse().or_else(|_| {
         let message = format!("`{word}` is not a number from 0 to 65535");

@@ -2,6 +2,7 @@
 
 use crate::board::Board;
 use crate::compare::{fails, passes_step_11, Tester};
+use crate::fits::Place;
 use crate::rng::Rng;
 use crate::text;
 
@@ -68,12 +69,37 @@ impl Trial {
         }
     }
 
+    /// The ends that records tell: on a board of some posts at every stage and of
+    /// every post, on a larger one at some stages and of some posts.
+    pub fn fits(&mut self, board: &Board) -> Vec<Place> {
+        let n = board.posts();
+        if n <= MIDDLING {
+            let names: Vec<u16> = (0..n as u16).collect();
+            return self.tester.fits(board, &every_stage(n), &names);
+        }
+        let stages = sample_of_stages(n);
+        let names = self.some_names(board, &stages);
+        self.tester.fits(board, &stages, &names)
+    }
+
+    /// The first three posts, those that are placed last or next at these stages, and
+    /// some by lot.
+    fn some_names(&mut self, board: &Board, stages: &[usize]) -> Vec<u16> {
+        let around = stages
+            .iter()
+            .flat_map(|&k| board.order[k - 1..].iter().take(2));
+        let mut names: Vec<u16> = board.order[..3].iter().chain(around).copied().collect();
+        names.extend((0..8).map(|_| self.rng.below(board.posts()) as u16));
+        names.sort_unstable();
+        names.dedup();
+        names
+    }
+
     /// Compare the reply to any block with Chrobak and Nakano's conditions (X2).
     pub fn conditions_of_block(&mut self, block: &[u8]) {
         let reply = self.tester.check(block);
         if passes_step_11(reply) {
-            let board = text::parse(&text::show(block).text).expect("it is whole");
-            self.tester.conditions(&board, reply);
+            self.tester.conditions(&text::board(block), reply);
         }
     }
 
@@ -85,6 +111,18 @@ impl Trial {
         }
         block
     }
+}
+
+/// The most posts of a board of which every stage is asked for every post.
+pub const MIDDLING: usize = 60;
+
+pub fn every_stage(n: usize) -> Vec<usize> {
+    (3..=n).collect()
+}
+
+/// Stages by twos, one after the other, so that moves are seen at each.
+pub fn sample_of_stages(n: usize) -> Vec<usize> {
+    vec![3, 4, n / 3, n / 3 + 1, 2 * n / 3, 2 * n / 3 + 1, n - 1, n]
 }
 
 /// Buffer lengths to try at a stage: none, one, around 2k, around 2n.

@@ -1,7 +1,8 @@
-//! The board tool: a block from a readable text, and back; and its sheet.
+//! The board tool: a block from a readable text, and back; its sheet and its fits.
 
 use outside::boards::{random, Kind};
 use outside::layout::MOST;
+use outside::reply::Refusal;
 use outside::rng::Rng;
 use outside::{paper, text};
 use std::io::{self, Read, Write};
@@ -14,6 +15,7 @@ const USAGE: &str = "\
 board pack < TEXT > BLOCK     write a block from its text
 board show < BLOCK > TEXT     write a block's text (of a damaged one what can be read)
 board sheet [K] < BLOCK       print the last stage, or stage K, by the rules
+board fit < BLOCK             print between which posts each is fitted, by the rules
 board make POSTS [SEED]       write the block of a board by chance
 
 The text of a board has a line `order ..` with the names in the order of
@@ -29,6 +31,7 @@ fn main() -> ExitCode {
         ["show"] => show(),
         ["sheet"] => sheet(None),
         ["sheet", word] => stage(word),
+        ["fit"] => fit(),
         ["make", posts] => make(posts, "1"),
         ["make", posts, seed] => make(posts, seed),
         _ => Err(USAGE.into()),
@@ -77,11 +80,19 @@ fn show() -> Result<ExitCode, String> {
     Ok(ExitCode::from(u8::from(!shown.whole)))
 }
 
-/// What the programs `sheet` and `stage` should print, from the independent
-/// implementation.
+/// What the programs `sheet` and `stage` should print.
 fn sheet(stage: Option<u128>) -> Result<ExitCode, String> {
-    let printed = paper::sheet_text(&input()?, stage);
-    output(printed.unwrap_or_else(paper::refused_text).as_bytes())?;
+    told(paper::sheet_text(&input()?, stage))
+}
+
+/// What the program `fit` should print.
+fn fit() -> Result<ExitCode, String> {
+    told(paper::fit_text(&input()?))
+}
+
+/// A text of the independent implementation, or its refusal's line.
+fn told(text: Result<String, Refusal>) -> Result<ExitCode, String> {
+    output(text.unwrap_or_else(paper::refused_text).as_bytes())?;
     Ok(ExitCode::SUCCESS)
 }
 

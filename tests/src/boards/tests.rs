@@ -107,6 +107,9 @@ fn every_kind_is_accepted_by_both_implementations() {
                 let reply = linear::sheet(&block, stage, &mut plain);
                 assert_eq!(reply, paper::sheet(&block, stage, &mut literal));
                 assert_eq!(plain, literal, "{kind:?} {n} at stage {stage}");
+                if n <= 50 {
+                    assert_same_records(&block, stage);
+                }
             }
         }
     }
@@ -114,6 +117,25 @@ fn every_kind_is_accepted_by_both_implementations() {
         let block = constructed(300, habit, &mut rng).block();
         assert_eq!(paper::check(&block), Ok(300));
     }
+}
+
+/// Both implementations tell the same of every post.
+fn assert_same_records(block: &[u8], stage: usize) {
+    for (name, record) in paper::records(block, stage).unwrap().iter().enumerate() {
+        assert_eq!(paper::post(block, stage, name), Ok(*record));
+        assert_eq!(linear::post(block, stage, name), Ok(*record));
+    }
+}
+
+/// The ends of runs are found by walking the ring, and by looking at each entry and
+/// the one before it.
+#[test]
+fn both_implementations_tell_the_same_however_lists_are_turned() {
+    every_board(5, &mut |board| {
+        every_turn(board, &mut |turned| {
+            (3..=5).for_each(|stage| assert_same_records(&turned.block(), stage));
+        });
+    });
 }
 
 #[test]

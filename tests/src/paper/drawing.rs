@@ -1,7 +1,7 @@
 //! The stages, each by moving whole groups.
 
 use super::Board;
-use crate::reply::{Record, Standing};
+use crate::reply::Standing;
 
 /// A stage: where the posts stand, the contour from left to right, the group of
 /// each contour post, and by whom the others are covered. All by name.
@@ -86,17 +86,8 @@ impl Drawing {
         (x.try_into().unwrap(), y.try_into().unwrap())
     }
 
-    pub fn record(&self, name: usize) -> Record {
-        let (x, y) = self.point(name);
-        Record {
-            x,
-            y,
-            standing: self.standing(name),
-        }
-    }
-
     /// How a post stands; v1 is its own left neighbour, and v2 its own right one (R3).
-    fn standing(&self, name: usize) -> Standing {
+    pub fn standing(&self, name: usize) -> Standing {
         if let Some(by) = self.covered_by[name] {
             return Standing::Covered { by: by as u16 };
         }

@@ -1,7 +1,7 @@
-//! What the programs `sheet`, `stage` and `why` print.
+//! What the programs `sheet`, `stage`, `fit` and `why` print.
 
 use super::{accepted, check, number_at, stage_allowed, Board, Drawing};
-use crate::reply::Refusal;
+use crate::reply::{Fit, Refusal};
 use crate::words::Words;
 
 /// The text of a block's stage: of the one asked for, or of the last.
@@ -26,6 +26,21 @@ fn text(board: &Board, stage: usize) -> String {
         text += &format!("{position} {name} {x} {y}\n");
     }
     text
+}
+
+/// The text of `fit`: of each position from 3 on its name, the word, the ends of
+/// its run, and x and y at the last stage.
+pub fn fit_text(block: &[u8]) -> Result<String, Refusal> {
+    let board = accepted(block)?;
+    let drawing = Drawing::at_stage(&board, board.n);
+    let mut text = String::new();
+    for position in 3..=board.n {
+        let name = board.v(position);
+        let Fit { left, right } = board.fit(name, board.n);
+        let (x, y) = drawing.point(name);
+        text += &format!("{position} {name} between {left} {right} {x} {y}\n");
+    }
+    Ok(text)
 }
 
 /// The line of a refusal: the word, number, place.
@@ -84,6 +99,7 @@ mod tests {
     use super::*;
     use crate::board::{d, mend_sum, t, Board};
     use crate::boards::{random, KINDS};
+    use crate::cases::octahedron;
     use crate::layout;
     use crate::rng::Rng;
 
@@ -118,6 +134,32 @@ mod tests {
         let block = Board { order, ..t() }.block();
         let lines = "sheet 3 3\n1 2 0 0\n2 0 2 0\n3 1 1 1\n";
         assert_eq!(sheet_text(&block, None), Ok(lines.into()));
+    }
+
+    /// Worked out by hand: each post of D goes over the whole contour, and T has
+    /// one run alone, which is v3's whole ring.
+    #[test]
+    fn the_fits_of_d_and_t() {
+        let of_d = "3 2 between 0 1 3 1\n4 3 between 0 1 3 2\n5 4 between 0 1 3 3\n";
+        assert_eq!(fit_text(&d().block()), Ok(of_d.into()));
+        assert_eq!(fit_text(&t().block()), Ok("3 2 between 0 1 1 1\n".into()));
+        let order = vec![2, 0, 1];
+        let turned = Board { order, ..t() }.block();
+        assert_eq!(fit_text(&turned), Ok("3 1 between 2 0 1 1\n".into()));
+        assert_eq!(fit_text(b""), refused(1, 0));
+    }
+
+    /// Worked out by hand, stage by stage.
+    #[test]
+    fn the_fits_of_an_octahedron() {
+        let lines = [
+            "3 4 between 0 1 3 1",
+            "4 2 between 4 1 5 2",
+            "5 3 between 0 2 4 3",
+            "6 5 between 0 1 4 4",
+        ];
+        let text = lines.map(|line| format!("{line}\n")).concat();
+        assert_eq!(fit_text(&octahedron().block()), Ok(text));
     }
 
     #[test]

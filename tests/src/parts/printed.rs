@@ -1,9 +1,9 @@
-//! What the programs `sheet`, `stage` and `why` print.
+//! What the programs `sheet`, `stage`, `fit` and `why` print.
 
 mod numbers;
 
 use crate::board::{d, mend_sum, t, Board};
-use crate::boards::{self, random, Kind, HABITS, KINDS};
+use crate::boards::{self, random, turned_by, with_v1_at, Kind, HABITS, KINDS};
 use crate::cases;
 use crate::damage::{self, Plan};
 use crate::layout::{self, MOST, N_AT, VERSION_AT};
@@ -31,6 +31,7 @@ pub fn programs(trial: &mut Trial) {
     println!("  {programs}");
     let mut printing = Printing { programs, trial };
     printing.last_stages();
+    printing.turned();
     printing.in_pieces();
     printing.cut_short();
     printing.too_long();
@@ -46,7 +47,7 @@ pub fn programs(trial: &mut Trial) {
 impl Printing<'_> {
     /// The programs that are asked for no stage.
     fn whole(&mut self, block: &[u8]) {
-        for call in [Call::Sheet, Call::Why(None)] {
+        for call in [Call::Sheet, Call::Fit(None), Call::Why(None)] {
             self.programs.compare(&mut self.trial.tester, call, block);
         }
     }
@@ -85,6 +86,15 @@ impl Printing<'_> {
         }
     }
 
+    /// Lists that begin elsewhere, with v1 at each place of D's last one.
+    fn turned(&mut self) {
+        let (d, forty) = (d(), text::board(FORTY));
+        let mut boards: Vec<Board> = (0..3).map(|place| with_v1_at(&d, place)).collect();
+        boards.extend((1..4).map(|by| turned_by(&d, by)));
+        boards.extend((1..4).map(|by| turned_by(&forty, by)));
+        boards.iter().for_each(|board| self.whole(&board.block()));
+    }
+
     /// The input comes in pieces, so that it has to be read many times.
     fn in_pieces(&mut self) {
         let large = self.random(Kind::Flipped, MOST);
@@ -98,7 +108,8 @@ impl Printing<'_> {
             (&long, 4096),
         ];
         for (block, piece) in inputs {
-            for call in [Call::Sheet, Call::Stage(Some(b"4")), Call::Why(None)] {
+            let stage = Call::Stage(Some(b"4"));
+            for call in [Call::Sheet, stage, Call::Fit(None), Call::Why(None)] {
                 let tester = &mut self.trial.tester;
                 self.programs.compare_in_pieces(tester, call, block, piece);
             }
@@ -162,12 +173,14 @@ impl Printing<'_> {
         }
     }
 
-    /// `why` looks at no word.
+    /// `fit` and `why` look at no word.
     fn words(&mut self) {
         for word in ["", "3", "2", "x", "13", "--help"] {
             for block in [&d().block(), AUTUMN, b""] {
-                let call = Call::Why(Some(word.as_bytes()));
-                self.programs.compare(&mut self.trial.tester, call, block);
+                let word = Some(word.as_bytes());
+                for call in [Call::Fit(word), Call::Why(word)] {
+                    self.programs.compare(&mut self.trial.tester, call, block);
+                }
             }
         }
     }
@@ -193,12 +206,11 @@ impl Printing<'_> {
     }
 
     fn damaged(&mut self) {
-        let forty = text::parse(&text::show(FORTY).text).expect("it is whole");
         let boards = [
             d(),
             random(Kind::Flipped, 12, &mut self.trial.rng),
             random(Kind::Hubs, 23, &mut self.trial.rng),
-            forty,
+            text::board(FORTY),
             random(Kind::Nested, MOST, &mut self.trial.rng),
         ];
         for (i, kind) in damage::KINDS.iter().enumerate() {

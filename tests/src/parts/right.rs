@@ -5,11 +5,7 @@ use crate::boards::{self, every_board, permute, random, Kind, KINDS};
 use crate::ffi;
 use crate::layout::MOST;
 use crate::reply::word;
-use crate::trial::Trial;
-
-fn stages(n: usize) -> Vec<usize> {
-    (3..=n).collect()
-}
+use crate::trial::{every_stage, sample_of_stages, Trial, MIDDLING};
 
 pub fn every_small_board(trial: &mut Trial) {
     for n in 3..=8 {
@@ -21,8 +17,9 @@ pub fn every_small_board(trial: &mut Trial) {
                 let board = boards::disguised(board, &mut trial.rng);
                 let block = trial.accepted(&board);
                 trial.everything(&block, n);
-                trial.tester.geometry(&board, &stages(n));
+                trial.tester.geometry(&board, &every_stage(n));
                 trial.tester.contours(&board);
+                trial.fits(&board);
             }
         });
         println!("  {n} posts: {count} boards with orders, each under {disguises} names");
@@ -60,22 +57,18 @@ pub fn every_order_of_small_boards(trial: &mut Trial) {
 
 pub fn middling_boards(trial: &mut Trial) {
     for kind in KINDS {
-        for n in (5..20).chain([25, 33, 47, 60]) {
+        for n in (5..20).chain([25, 33, 47, MIDDLING]) {
             let board = random(kind, n, &mut trial.rng);
             let block = trial.accepted(&board);
-            trial.tester.geometry(&board, &stages(n));
+            trial.tester.geometry(&board, &every_stage(n));
             trial.tester.conditions(&board, Ok(n as u16));
+            trial.fits(&board);
             if n < 20 {
                 trial.everything(&block, n);
                 trial.tester.contours(&board);
-                continue;
+            } else {
+                trial.something(&block, n, 50);
             }
-            for stage in 3..=n {
-                for name in 0..n {
-                    let _ = trial.tester.post(&block, stage, name);
-                }
-            }
-            trial.something(&block, n, 50);
         }
     }
 }
@@ -86,6 +79,7 @@ pub fn large_boards(trial: &mut Trial) {
             let board = random(kind, n, &mut trial.rng);
             let block = trial.accepted(&board);
             trial.something(&block, n, 30);
+            trial.fits(&board);
             trial.tester.geometry(&board, &sample_of_stages(n));
             if n <= MOST / 2 {
                 trial.tester.conditions_at(&board, &sample_of_stages(n));
@@ -96,16 +90,12 @@ pub fn large_boards(trial: &mut Trial) {
         let board = boards::constructed(MOST, habit, &mut trial.rng);
         let block = trial.accepted(&board);
         trial.something(&block, MOST, 30);
+        trial.fits(&board);
         trial.tester.geometry(&board, &sample_of_stages(MOST));
     }
     // One post too many, and otherwise a right block.
     let block = random(Kind::Flipped, MOST + 1, &mut trial.rng).block();
     trial.something(&block, MOST + 1, 10);
-}
-
-/// Stages by twos, one after the other, so that moves are seen at each.
-fn sample_of_stages(n: usize) -> Vec<usize> {
-    vec![3, 4, n / 3, n / 3 + 1, 2 * n / 3, 2 * n / 3 + 1, n - 1, n]
 }
 
 /// The stack that a thread needs for the longest block: the arrays' bytes for

@@ -21,13 +21,13 @@ pub fn stand_in(mut words: impl Iterator<Item = OsString>) -> io::Result<()> {
                 printed(&block, stage)
             }
         },
-        Some(name) if name == "why" => {
+        name => {
             read(&mut block)?;
-            why(&block)
-        }
-        _ => {
-            read(&mut block)?;
-            printed(&block, None)
+            match name.as_ref().and_then(|name| name.to_str()) {
+                Some("why") => why(&block),
+                Some("fit") => fits(&block).unwrap_or_else(refused),
+                _ => printed(&block, None),
+            }
         }
     };
     io::stdout().write_all(answer.as_bytes())
@@ -45,8 +45,11 @@ fn stage(word: &OsString) -> Option<usize> {
     (digits && word.len() <= 32).then(|| word.parse().unwrap_or(usize::MAX))
 }
 
+fn refused(Refusal { number, place }: Refusal) -> String {
+    format!("refused {number} {place}\n")
+}
+
 fn printed(block: &[u8], stage: Option<usize>) -> String {
-    let refused = |Refusal { number, place }| format!("refused {number} {place}\n");
     sheet(block, stage).unwrap_or_else(refused)
 }
 
@@ -86,6 +89,19 @@ fn sheet(block: &[u8], stage: Option<usize>) -> Result<String, Refusal> {
     for (i, point) in buffer[..count.into()].chunks(2).enumerate() {
         let name = layout::get(block, layout::order_at(i));
         writeln!(text, "{} {name} {} {}", i + 1, point[0], point[1]).unwrap();
+    }
+    Ok(text)
+}
+
+fn fits(block: &[u8]) -> Result<String, Refusal> {
+    let mut buffer = [0; 2 * MOST];
+    let n = linear::check(block)?;
+    linear::sheet(block, n.into(), &mut buffer)?;
+    let mut text = String::new();
+    for (i, (left, right)) in (2..).zip(linear::ends(block)?) {
+        let name = layout::get(block, layout::order_at(i));
+        let (x, y) = (buffer[2 * i], buffer[2 * i + 1]);
+        writeln!(text, "{} {name} between {left} {right} {x} {y}", i + 1).unwrap();
     }
     Ok(text)
 }
