@@ -3,6 +3,7 @@ pub mod Stepped
 pub mod Along
 pub mod Shown
 pub mod NextPost
+pub mod Ending
 pub mod StageThree
 pub mod ReadColumns
 pub mod Told

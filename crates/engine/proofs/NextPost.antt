@@ -6,7 +6,7 @@ use native.Mathlib.Omega.{arith}
 use lib.ListN.{length, getD, take, length-append}
 use lib.Seq.{length-take-le}
 use Rattle.words.specs.Lists.{In}
-use Rattle.words.specs.Positions.{post}
+use Rattle.words.specs.Positions.{post, earlier}
 use Rattle.words.proofs.Tests.{place-in}
 use Rattle.words.proofs.Positions.{in-take}
 use Rattle.block.specs.Layout.{limit}
@@ -21,7 +21,7 @@ use Rattle.engine.specs.Shows.{Shows, Holds}
 use Rattle.engine.proofs.Kept.{Kept, kept-at}
 use Rattle.engine.proofs.Shown.{over-ready, shown, roomy}
 
-module _ (at ents vs rank : List ℕ) (A : Fitted at ents vs rank) (k : ℕ) (h : 3 ≤ k) (i : k < length vs) where
+module _ (at ents vs : List ℕ) (A : Fitted at ents vs) (k : ℕ) (h : 3 ≤ k) (i : k < length vs) where
   abbrev G : List (List ℕ)
   G = held at ents
 
@@ -45,12 +45,15 @@ module _ (at ents vs rank : List ℕ) (A : Fitted at ents vs rank) (k : ℕ) (h 
   K : Kept (stage (held at ents) (take k vs))
   K = kept-at G (A .vn) vs (A .plane) (A .fits) k h (omega arith)
 
-  run-is : run (held at ents) (take k vs) (post vs (k + 1)) ≡ s .p ∷ (s .M ++ s .q ∷ [])
-  run-is = subst (λ (l : List ℕ). run (held at ents) l (post vs (k + 1)) ≡ s .p ∷ (s .M ++ s .q ∷ [])) (stage-placed G vs k h (omega arith)) (s .run-is)
+  run-is : run (held at ents) (earlier vs (k + 1)) (post vs (k + 1)) ≡ s .p ∷ (s .M ++ s .q ∷ [])
+  run-is =
+      let e : k ≡ k + 1 - 1 = omega arith in
+      let placed = stage-placed G vs k h (omega arith) ∙ ap (λ (j : ℕ). take j vs) e in
+      subst (λ (l : List ℕ). run (held at ents) l (post vs (k + 1)) ≡ s .p ∷ (s .M ++ s .q ∷ [])) placed (s .run-is)
 
   -- v is the next post; its run has m posts, the first is p
-  module _ (v p m : ℕ) (ev : v ≡ getD vs k 0) (ep : p ≡ post (run (held at ents) (take k vs) (post vs (k + 1))) 1)
-      (em : m ≡ length (run (held at ents) (take k vs) (post vs (k + 1)))) where
+  module _ (v p m : ℕ) (ev : v ≡ getD vs k 0) (ep : p ≡ post (run (held at ents) (earlier vs (k + 1)) (post vs (k + 1))) 1)
+      (em : m ≡ length (run (held at ents) (earlier vs (k + 1)) (post vs (k + 1)))) where
     v-is : v ≡ post vs (k + 1)
     v-is = let e : k + 1 - 1 ≡ k = omega arith in ev ∙ rw e refl
 

@@ -76,7 +76,7 @@ laid-ready vs off cover right xs zs k R e =
     )
 
 -- ---- a stage of a list that fits so far
-module _ (at ents vs rank : List ℕ) (A : Fitted at ents vs rank) (k : ℕ) (h : 3 ≤ k) (i : k ≤ length vs)
+module _ (at ents vs : List ℕ) (A : Fitted at ents vs) (k : ℕ) (h : 3 ≤ k) (i : k ≤ length vs)
     (ys off cover left right : List ℕ) (H : Holds at ents vs k ys off cover left right) (xs : List ℕ) (room : length (held at ents) ≤ length xs) where
   abbrev G : List (List ℕ)
   G = held at ents

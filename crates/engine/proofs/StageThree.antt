@@ -106,7 +106,7 @@ start-shows v1 v2 v3 ys off cover left right ys' off' cover' left' right' C e1 e
     (C .below1) (C .below2) (C .below3))
 
 -- ---- of a list that fits so far
-module _ (at ents vs rank ys off cover left right : List ℕ) (A : Fitted at ents vs rank) (W : Room (length (held at ents)) ys off cover left right) where
+module _ (at ents vs ys off cover left right : List ℕ) (A : Fitted at ents vs) (W : Room (length (held at ents)) ys off cover left right) where
   pub corners-ready : Corners (getD vs 0 0) (getD vs 1 0) (getD vs 2 0) ys off cover left right
   corners-ready =
       let b = A .fits .below in

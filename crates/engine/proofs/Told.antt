@@ -19,16 +19,19 @@ use Rattle.rings.proofs.Around.{After}
 use Rattle.order.proofs.Contour.{Contour}
 use Rattle.order.proofs.Fitting.{fits-few}
 use Rattle.placing.specs.Stages.{Stage, stage}
-use Rattle.placing.specs.Records.{leftOf, rightOf, standing, recordOf, entriesOf}
+use Rattle.placing.specs.Records.{leftOf, rightOf, standing, fitLeft, fitRight, recordOf, entriesOf}
 use Rattle.placing.specs.declared.Standing.the-variants.{Waiting, OnContour, Covered}
 use Rattle.placing.proofs.Steps.{contours, stage-placed, stage-first, stage-second}
+use Rattle.placing.proofs.Writing.{pairs-twos, twos-same}
 use Rattle.order.specs.Opens.{before}
 use Rattle.order.specs.Fitted.{Fitted}
-use Rattle.engine.specs.Shows.{Shows, Columned}
+use Rattle.order.specs.Ranked.{RankedBelow}
+use Rattle.engine.specs.Shows.{Shows, RoomFor, Columned}
 use Rattle.placing.specs.Pairs.{pairs}
-use Rattle.engine.specs.Recorded.{recordBy}
+use Rattle.engine.specs.Recorded.{standingBy, recordBy}
 use Rattle.order.proofs.Ranked.{placed-by}
 use Rattle.engine.proofs.ReadColumns.{covered-later}
+use Rattle.engine.proofs.Ending.{front-same}
 
 -- ---- neighbours on a contour
 left-first : (x : ℕ) (l : List ℕ) (u : ℕ) → ¬ (In u l) → leftOf (x ∷ l) u ≡ u
@@ -78,18 +81,11 @@ some-right x (y ∷ l) u (inr i) = go (some-right y l u i)
     go (inl e) = inl e
     go (inr w) = inr (w .0, inr (w .1))
 
--- ---- entries
-pairs-same : (xs ys : List ℕ) (f g : ℕ → ℕ) (l : List ℕ) → ((u : ℕ) → In u l → (getD xs u 0 ≡ f u) × (getD ys u 0 ≡ g u))
-    → pairs xs ys l ≡ flatMap (λ u. f u ∷ g u ∷ []) l
-unfolding pairs flatMap
-pairs-same xs ys f g [] h = refl
-pairs-same xs ys f g (u ∷ l) h = let e = h u (inl refl) in rw (e .0, e .1, pairs-same xs ys f g l (λ w i. h w (inr i))) refl
-
 -- no stage is beyond the limit
-pub stage-within : (at ents vs rank : List ℕ) → Fitted at ents vs rank → (k : ℕ) → k ≤ length vs → k ≤ limit
-stage-within at ents vs rank A k i = omega (arith, fits-few (held at ents) (A .vn) vs (A .plane) (A .fits), A .most)
+pub stage-within : (at ents vs : List ℕ) → Fitted at ents vs → (k : ℕ) → k ≤ length vs → k ≤ limit
+stage-within at ents vs A k i = omega (arith, fits-few (held at ents) (A .vn) vs (A .plane) (A .fits), A .most)
 
-module _ (at ents vs rank : List ℕ) (A : Fitted at ents vs rank) (k : ℕ) (h : 3 ≤ k) (i : k ≤ length vs)
+module _ (at ents vs : List ℕ) (A : Fitted at ents vs) (k : ℕ) (h : 3 ≤ k) (i : k ≤ length vs)
     (ys off cover left right xs : List ℕ) (D : Columned at ents vs k ys off cover left right xs) where
   abbrev G : List (List ℕ)
   G = held at ents
@@ -104,7 +100,7 @@ module _ (at ents vs rank : List ℕ) (A : Fitted at ents vs rank) (k : ℕ) (h 
   unfolding entriesOf
   entries-are =
       ap (pairs xs ys) (sym (stage-placed G vs k h i))
-      ∙ pairs-same xs ys (t .x) (t .y) (t .placed) (λ u q. (D .column u q, S .height u q))
+      ∙ pairs-twos xs ys (t .placed) ∙ twos-same _ _ (t .x) (t .y) (t .placed) (λ u q. (D .column u q, S .height u q))
 
   C : Contour (After G) (post vs 1) (post vs 2) (take k vs) (t .contour)
   C = contours G (A .vn) vs (A .plane) (A .fits) k h i
@@ -139,19 +135,18 @@ module _ (at ents vs rank : List ℕ) (A : Fitted at ents vs rank) (k : ℕ) (h 
   other : (u : ℕ) → In u (t .placed) → ¬ (In u (t .contour)) → ¬ (getD cover u 0 ≡ u)
   other u q n e =
       let w = in-take k vs u (subst (In u) (stage-placed G vs k h i) q) in
-      let l = covered-later at ents vs rank A k h i ys off cover left right (D .holds) xs (D .roomy) (w .0) (w .1)
+      let l = covered-later at ents vs A k h i ys off cover left right (D .holds) xs (D .roomy) (w .0) (w .1)
       (λ c. n (subst (λ (a : ℕ). In a (t .contour)) (w .3) c)) in
       let f : getD vs (l .0) 0 ≡ getD vs (w .0) 0 = l .3 ∙ ap (t .cover) (w .3) ∙ sym (S .covers u q n) ∙ e ∙ sym (w .3) in
       let d = A .fits .once (l .0) (w .0) (omega (arith, l .2)) (w .2) f in
       omega (arith, l .1)
 
-  stands : (u : ℕ) → In u (t .placed)
-      → cond (eqb (getD cover u 0) u) (OnContour (getD left u 0) (getD right u 0)) (Covered (getD cover u 0)) ≡ standing t u
+  stands : (u : ℕ) → In u (t .placed) → standingBy cover left right u ≡ standing t u
   unfolding standing
   stands u q = go (in-dec u (t .contour))
     where
       go : Dec (In u (t .contour))
-          → cond (eqb (getD cover u 0) u) (OnContour (getD left u 0) (getD right u 0)) (Covered (getD cover u 0))
+          → standingBy cover left right u
           ≡ cond (mem (t .contour) u) (OnContour (leftOf (t .contour) u) (rightOf (t .contour) u))
           (cond (mem (t .placed) u) (Covered (t .cover u)) Waiting)
       go (yes c) = rw (is-true (mem (t .contour) u) (in-mem (t .contour) u c), eq-eqb (getD cover u 0) u (S .bare u c), left-at u c, right-at u c) refl
@@ -163,19 +158,26 @@ module _ (at ents vs rank : List ℕ) (A : Fitted at ents vs rank) (k : ℕ) (h 
             S .covers u q n,
           ) refl
 
-  pub record-is : (u : ℕ) → u < length G → recordBy rank k xs ys cover left right u ≡ recordOf t u
+  -- the ends of a placed post's run are those of the whole list
+  ends-same : (u : ℕ) → In u (t .placed) → (fitLeft G (t .placed) u ≡ fitLeft G vs u) × (fitRight G (t .placed) u ≡ fitRight G vs u)
+  ends-same u q = let e = stage-placed G vs k h i in rw e (front-same at ents vs A k i u (subst (In u) e q))
+
+  pub record-is : (rank : List ℕ) → RankedBelow (length G) vs rank → (u : ℕ) → u < length G
+      → recordBy G vs rank k xs ys cover left right u ≡ recordOf G t u
   unfolding recordOf
-  record-is u l = go (in-dec u (t .placed))
+  record-is rank R u l = go (in-dec u (t .placed))
     where
       is-placed : mem (t .placed) u ≡ before rank (k + 1) u
-      is-placed = ap (λ (r : List ℕ). mem r u) (stage-placed G vs k h i) ∙ placed-by (length G) vs rank (A .ranked) k i u l
+      is-placed = ap (λ (r : List ℕ). mem r u) (stage-placed G vs k h i) ∙ placed-by (length G) vs rank R k i u l
 
-      go : Dec (In u (t .placed)) → recordBy rank k xs ys cover left right u
+      go : Dec (In u (t .placed)) → recordBy G vs rank k xs ys cover left right u
           ≡ cond (mem (t .placed) u)
-          (record { x = t .x u; y = t .y u; standing = standing t u }) (record { x = 0; y = 0; standing = Waiting })
+          (record { x = t .x u; y = t .y u; standing = standing t u; leftmost = fitLeft G (t .placed) u; rightmost = fitRight G (t .placed) u })
+          (record { x = 0; y = 0; standing = Waiting; leftmost = u; rightmost = u })
       go (yes q) =
           let e = is-true (mem (t .placed) u) (in-mem (t .placed) u q) in
-          rw (← is-placed, e, D .column u q, S .height u q, stands u q) refl
+          let ends = ends-same u q in
+          rw (← is-placed, e, D .column u q, S .height u q, stands u q, ends .0, ends .1) refl
       go (no n) = rw (← is-placed, is-false (mem (t .placed) u) (λ m. n (mem-in (t .placed) u m))) refl
 
   -- the posts placed have room
@@ -187,15 +189,13 @@ module _ (at ents vs rank : List ℕ) (A : Fitted at ents vs rank) (k : ℕ) (h 
   pub sheet-is : (B B' : List ℕ) → B' ≡ pairs xs ys (take k vs) ++ drop (2 * k) B → B' ≡ entriesOf t ++ drop (2 * k) B
   sheet-is B B' e = e ∙ ap (λ (l : List ℕ). l ++ drop (2 * k) B) entries-are
 
-  pub record-ready : (u : ℕ) → u < length G → (k ≤ limit) × (u < length rank) × (u < length xs) × (u < length ys) × (u < length cover)
-      × (u < length left) × (u < length right)
+  pub record-ready : (u : ℕ) → u < length G → RoomFor u ys cover left right xs
   record-ready u l =
-      let W = D .holds .room in (
-        stage-within at ents vs rank A k i,
-        omega (arith, A .ranked .room),
-        omega (arith, D .roomy),
-        omega (arith, W .of-ys),
-        omega (arith, W .of-cover),
-        omega (arith, W .of-left),
-        omega (arith, W .of-right),
-      )
+      let W = D .holds .room in
+      record {
+        in-ys = omega (arith, W .of-ys);
+        in-cover = omega (arith, W .of-cover);
+        in-left = omega (arith, W .of-left);
+        in-right = omega (arith, W .of-right);
+        in-xs = omega (arith, D .roomy);
+      }

@@ -32,6 +32,14 @@ pub record Room (n : ℕ) (ys off cover left right : List ℕ) : Type 0 where
   pub of-left : n ≤ length left
   pub of-right : n ≤ length right
 
+-- room for the post u in each array that its record is read from
+pub record RoomFor (u : ℕ) (ys cover left right xs : List ℕ) : Type 0 where
+  pub in-ys : u < length ys
+  pub in-cover : u < length cover
+  pub in-left : u < length left
+  pub in-right : u < length right
+  pub in-xs : u < length xs
+
 -- three posts that differ, and have room
 pub record Corners (v1 v2 v3 : ℕ) (ys off cover left right : List ℕ) : Type 0 where
   pub n : ℕ

@@ -5,21 +5,23 @@ ghost use mathlib.Core.Path.{_≡_};
 ghost use mathlib.Core.List.{_++_};
 ghost use Prim.Native.Nat.{_+_, _*_, _≤_, _<_};
 ghost use lib.ListN.{length, take, drop};
-ghost use Rattle.block.specs.Layout.{limit};
-ghost use Rattle.order.specs.Fitted.{Fitted, Reachable};
+ghost use Rattle.words.specs.Positions.{post};
+ghost use Rattle.order.specs.Fitted.{Fitted, RunsHeld, Reachable};
+ghost use Rattle.order.specs.Ranked.{RankedBelow};
 ghost use Rattle.rings.specs.Held.{held};
 ghost use Rattle.placing.specs.Stages.{third, stage};
-ghost use Rattle.placing.specs.Records.{recordOf, entriesOf};
+ghost use Rattle.placing.specs.Records.{fitLeft, fitRight, recordOf, entriesOf, endsOf};
 ghost use Rattle.contour.specs.Columns.{Readable, columnsOf};
-ghost use Rattle.engine.specs.Recorded.{recordBy};
-ghost use Rattle.engine.specs.Shows.{Shows, Room, Corners, Holds, Columned};
+ghost use Rattle.engine.specs.Recorded.{standingBy, recordBy};
+ghost use Rattle.engine.specs.Shows.{Shows, Room, RoomFor, Corners, Holds, Columned};
 
 // From stage k to stage k + 1: the post in position k + 1 is placed.
 pub fn place_next(
     at: &[u16],
     ents: &[u16],
     vs: &[u16],
-    rank: &[u16],
+    begin: &[u16],
+    long: &[u16],
     k: usize,
     ys: &mut [u16],
     off: &mut [u16],
@@ -27,13 +29,14 @@ pub fn place_next(
     left: &mut [u16],
     right: &mut [u16],
 )
-    requires { ⌜ Fitted (now at) (now ents) (now vs) (now rank) × (3 ≤ k) × (k < length (now vs))
+    requires { ⌜ Fitted (now at) (now ents) (now vs) × RunsHeld (now at) (now ents) (now vs) (now begin) (now long) × (3 ≤ k) × (k < length (now vs))
         × Holds (now at) (now ents) (now vs) k (now ys) (now off) (now cover) (now left) (now right) ⌝ }
     ensures { λ r. ⌜ Holds (now (at .entry)) (now (ents .entry)) (now (vs .entry)) (k + 1)
         (now (ys .exit)) (now (off .exit)) (now (cover .exit)) (now (left .exit)) (now (right .exit)) ⌝ }
 {
-    let run = order::next_run(at, ents, vs, rank, k);
-    contour::place_over(vs[k], run.first, run.many, ys, off, cover, left, right);
+    let first = order::of_run(at, ents, vs, begin, k + 1, 0);
+    let many = words::number(long[k]);
+    contour::place_over(vs[k], first, many, ys, off, cover, left, right);
 }
 
 // Stage 3, with the three corners where S4 puts them.
@@ -62,7 +65,8 @@ pub fn reach(
     at: &[u16],
     ents: &[u16],
     vs: &[u16],
-    rank: &[u16],
+    begin: &[u16],
+    long: &[u16],
     k: usize,
     ys: &mut [u16],
     off: &mut [u16],
@@ -70,7 +74,7 @@ pub fn reach(
     left: &mut [u16],
     right: &mut [u16],
 )
-    requires { ⌜ Reachable (now at) (now ents) (now vs) (now rank) k
+    requires { ⌜ Reachable (now at) (now ents) (now vs) (now begin) (now long) k
         × Room (length (held (now at) (now ents))) (now ys) (now off) (now cover) (now left) (now right) ⌝ }
     ensures { λ r. ⌜ Holds (now (at .entry)) (now (ents .entry)) (now (vs .entry)) k
         (now (ys .exit)) (now (off .exit)) (now (cover .exit)) (now (left .exit)) (now (right .exit)) ⌝ }
@@ -78,7 +82,7 @@ pub fn reach(
     start(vs[0], vs[1], vs[2], ys, off, cover, left, right);
     let mut i = 3;
     while i < k {
-        place_next(at, ents, vs, rank, i, ys, off, cover, left, right);
+        place_next(at, ents, vs, begin, long, i, ys, off, cover, left, right);
         i += 1;
     }
 }
@@ -97,7 +101,8 @@ pub fn draw(
     at: &[u16],
     ents: &[u16],
     vs: &[u16],
-    rank: &[u16],
+    begin: &[u16],
+    long: &[u16],
     k: usize,
     ys: &mut [u16],
     off: &mut [u16],
@@ -106,13 +111,13 @@ pub fn draw(
     right: &mut [u16],
     xs: &mut [u16],
 )
-    requires { ⌜ Reachable (now at) (now ents) (now vs) (now rank) k
+    requires { ⌜ Reachable (now at) (now ents) (now vs) (now begin) (now long) k
         × Room (length (held (now at) (now ents))) (now ys) (now off) (now cover) (now left) (now right)
         × (length (held (now at) (now ents)) ≤ length (now xs)) ⌝ }
     ensures { λ r. ⌜ Columned (now (at .entry)) (now (ents .entry)) (now (vs .entry)) k
         (now (ys .exit)) (now (off .exit)) (now (cover .exit)) (now (left .exit)) (now (right .exit)) (now (xs .exit)) ⌝ }
 {
-    reach(at, ents, vs, rank, k, ys, off, cover, left, right);
+    reach(at, ents, vs, begin, long, k, ys, off, cover, left, right);
     columns(vs, off, cover, right, xs, k);
 }
 
@@ -121,7 +126,8 @@ pub fn sheet_at(
     at: &[u16],
     ents: &[u16],
     vs: &[u16],
-    rank: &[u16],
+    begin: &[u16],
+    long: &[u16],
     k: usize,
     ys: &mut [u16],
     off: &mut [u16],
@@ -131,51 +137,90 @@ pub fn sheet_at(
     xs: &mut [u16],
     buffer: &mut [u16],
 )
-    requires { ⌜ Reachable (now at) (now ents) (now vs) (now rank) k
+    requires { ⌜ Reachable (now at) (now ents) (now vs) (now begin) (now long) k
         × Room (length (held (now at) (now ents))) (now ys) (now off) (now cover) (now left) (now right)
         × (length (held (now at) (now ents)) ≤ length (now xs)) × (2 * k ≤ length (now buffer)) ⌝ }
     ensures { λ r. ⌜ now (buffer .exit) ≡ entriesOf (stage (held (now (at .entry)) (now (ents .entry))) (take k (now (vs .entry))))
         ++ drop (2 * k) (now (buffer .entry)) ⌝ }
 {
-    draw(at, ents, vs, rank, k, ys, off, cover, left, right, xs);
+    draw(at, ents, vs, begin, long, k, ys, off, cover, left, right, xs);
     placing::write_sheet(vs, k, xs, ys, buffer);
+}
+
+// The ends of a run, by name.
+struct Ends {
+    left: u16,
+    right: u16,
+}
+
+// The ends of the run of the post in position j; the posts in positions 1 and 2 have none, and count as their own.
+fn ends_of(at: &[u16], ents: &[u16], vs: &[u16], begin: &[u16], long: &[u16], j: usize) -> Ends
+    requires { ⌜ Fitted (now at) (now ents) (now vs) × RunsHeld (now at) (now ents) (now vs) (now begin) (now long) × (1 ≤ j) × (j ≤ length (now vs)) ⌝ }
+    ensures { λ r. ⌜ (r .left ≡ fitLeft (held (now (at .entry)) (now (ents .entry))) (now (vs .entry)) (post (now (vs .entry)) j))
+        × (r .right ≡ fitRight (held (now (at .entry)) (now (ents .entry))) (now (vs .entry)) (post (now (vs .entry)) j)) ⌝ }
+{
+    if j < 3 {
+        let u = vs[j - 1];
+        return Ends { left: u, right: u };
+    }
+    let many = words::number(long[j - 1]);
+    Ends {
+        left: order::of_run(at, ents, vs, begin, j, 0),
+        right: order::of_run(at, ents, vs, begin, j, many - 1),
+    }
+}
+
+// How a placed post stands, from the arrays of its stage.
+fn standing_at(cover: &[u16], left: &[u16], right: &[u16], u: u16) -> Standing
+    requires { ⌜ (u < length (now cover)) × (u < length (now left)) × (u < length (now right)) ⌝ }
+    ensures { λ r. ⌜ r ≡ standingBy (now (cover .entry)) (now (left .entry)) (now (right .entry)) u ⌝ }
+{
+    let i = words::number(u);
+    let c = cover[i];
+    if c == u {
+        return Standing::OnContour(left[i], right[i]);
+    }
+    Standing::Covered(c)
 }
 
 // The record of post u, from the arrays of stage k.
 fn record_at(
+    at: &[u16],
+    ents: &[u16],
+    vs: &[u16],
     rank: &[u16],
+    begin: &[u16],
+    long: &[u16],
     k: usize,
-    xs: &[u16],
+    u: u16,
     ys: &[u16],
     cover: &[u16],
     left: &[u16],
     right: &[u16],
-    u: u16,
+    xs: &[u16],
 ) -> Record
-    requires { ⌜ (k ≤ limit) × (u < length (now rank)) × (u < length (now xs)) × (u < length (now ys)) × (u < length (now cover)) × (u < length (now left))
-        × (u < length (now right)) ⌝ }
-    ensures { λ r. ⌜ r ≡ recordBy (now (rank .entry)) k (now (xs .entry)) (now (ys .entry)) (now (cover .entry)) (now (left .entry)) (now (right .entry)) u ⌝ }
+    requires { ⌜ Reachable (now at) (now ents) (now vs) (now begin) (now long) k × RankedBelow (length (held (now at) (now ents))) (now vs) (now rank)
+        × (u < length (held (now at) (now ents))) × RoomFor u (now ys) (now cover) (now left) (now right) (now xs) ⌝ }
+    ensures { λ r. ⌜ r ≡ recordBy (held (now (at .entry)) (now (ents .entry))) (now (vs .entry)) (now (rank .entry)) k
+        (now (xs .entry)) (now (ys .entry)) (now (cover .entry)) (now (left .entry)) (now (right .entry)) u ⌝ }
 {
     if !order::is_before(rank, u, k + 1) {
         return Record {
             x: 0,
             y: 0,
             standing: Standing::Waiting,
+            leftmost: u,
+            rightmost: u,
         };
     }
     let i = words::number(u);
-    let c = cover[i];
-    if c == u {
-        return Record {
-            x: xs[i],
-            y: ys[i],
-            standing: Standing::OnContour(left[i], right[i]),
-        };
-    }
+    let ends = ends_of(at, ents, vs, begin, long, words::number(rank[i]));
     Record {
         x: xs[i],
         y: ys[i],
-        standing: Standing::Covered(c),
+        standing: standing_at(cover, left, right, u),
+        leftmost: ends.left,
+        rightmost: ends.right,
     }
 }
 
@@ -185,6 +230,8 @@ pub fn post_at(
     ents: &[u16],
     vs: &[u16],
     rank: &[u16],
+    begin: &[u16],
+    long: &[u16],
     k: usize,
     u: u16,
     ys: &mut [u16],
@@ -194,11 +241,28 @@ pub fn post_at(
     right: &mut [u16],
     xs: &mut [u16],
 ) -> Record
-    requires { ⌜ Reachable (now at) (now ents) (now vs) (now rank) k
+    requires { ⌜ Reachable (now at) (now ents) (now vs) (now begin) (now long) k
         × Room (length (held (now at) (now ents))) (now ys) (now off) (now cover) (now left) (now right)
-        × (length (held (now at) (now ents)) ≤ length (now xs)) × (u < length (held (now at) (now ents))) ⌝ }
-    ensures { λ r. ⌜ r ≡ recordOf (stage (held (now (at .entry)) (now (ents .entry))) (take k (now (vs .entry)))) u ⌝ }
+        × (length (held (now at) (now ents)) ≤ length (now xs)) × (u < length (held (now at) (now ents)))
+        × RankedBelow (length (held (now at) (now ents))) (now vs) (now rank) ⌝ }
+    ensures { λ r. ⌜ r ≡ recordOf (held (now (at .entry)) (now (ents .entry)))
+        (stage (held (now (at .entry)) (now (ents .entry))) (take k (now (vs .entry)))) u ⌝ }
 {
-    draw(at, ents, vs, rank, k, ys, off, cover, left, right, xs);
-    record_at(rank, k, xs, ys, cover, left, right, u)
+    draw(at, ents, vs, begin, long, k, ys, off, cover, left, right, xs);
+    record_at(at, ents, vs, rank, begin, long, k, u, ys, cover, left, right, xs)
+}
+
+// The ends of the runs of the posts placed at stage k, two entries for each in its turn; the buffer beyond is as it was.
+pub fn ends_at(at: &[u16], ents: &[u16], vs: &[u16], begin: &[u16], long: &[u16], k: usize, buffer: &mut [u16])
+    requires { ⌜ Reachable (now at) (now ents) (now vs) (now begin) (now long) k × (2 * k ≤ length (now buffer)) ⌝ }
+    ensures { λ r. ⌜ now (buffer .exit) ≡ endsOf (held (now (at .entry)) (now (ents .entry))) (take k (now (vs .entry)))
+        ++ drop (2 * k) (now (buffer .entry)) ⌝ }
+{
+    let mut i = 0;
+    while i < k {
+        let ends = ends_of(at, ents, vs, begin, long, i + 1);
+        buffer[2 * i] = ends.left;
+        buffer[2 * i + 1] = ends.right;
+        i += 1;
+    }
 }

@@ -10,7 +10,7 @@ use native.Mathlib.Decide.{decLt}
 use lib.ListN.{length, getD}
 use lib.Seq.{slice, slice-empty, length-slice}
 use Rattle.words.specs.Lists.{In, mem, count, lastOf, Adj}
-use Rattle.words.proofs.Lists.{in-dec, last-in, adj-more}
+use Rattle.words.proofs.Lists.{in-dec, last-in, last-at, adj-more}
 use Rattle.words.proofs.Tests.{is-true, is-false, in-mem, mem-in}
 use Rattle.rings.specs.Rings.{around}
 use Rattle.rings.proofs.Turns.{part-step, part-at}
@@ -44,11 +44,6 @@ module _ (p : ℕ → Bool) where
   opening-end l e z j w = ap (openingAfter p z j w) (slice-empty e l)
 
 -- ---- before the first turn: w is the test of the last entry, if there is one
-last-at : (x : ℕ) (l : List ℕ) → 0 < length l → lastOf x l ≡ getD l (length l - 1) 0
-last-at x [] h = absurd (omega arith)
-last-at x (y ∷ []) h = refl
-last-at x (y ∷ z ∷ l) h = let e : length (y ∷ z ∷ l) - 1 ≡ suc (length (z ∷ l) - 1) = omega arith in rw e (last-at y (z ∷ l) (omega arith))
-
 last-part : (l : List ℕ) (b e : ℕ) → b < e → e ≤ length l → lastOf 0 (slice b e l) ≡ getD l (e - 1) 0
 last-part l b e h k =
     let n = length-slice b e l k in

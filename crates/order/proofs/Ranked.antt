@@ -1,14 +1,14 @@
 -- Positions by name: earlier and later as comparisons of positions.
 use Prim.Native.Nat.{ℕ, suc, _+_, _-_, _≤_, _<_}
 use mathlib.Core.Path.{_≡_, sym, ap, _∙_}
-use mathlib.Core.Bool.{false}
+use mathlib.Core.Bool.{true, false}
 use mathlib.Core.List.{List}
 use native.Mathlib.Omega.{arith}
 use native.Mathlib.Decide.{ℕ-discrete, decLt}
 use lib.Dec.{ltb}
 use lib.ListN.{length, getD, take, set}
 use lib.Seq.{getD-set-same, getD-set-other}
-use borrow.Author.Tests.{lt-ltb, le-ltb}
+use borrow.Author.Tests.{ltb-true, lt-ltb, le-ltb}
 use Rattle.words.specs.Lists.{In, mem}
 use Rattle.words.specs.Positions.{post, earlier, Earlier}
 use Rattle.words.proofs.Lists.{in-dec, all-there}
@@ -41,6 +41,13 @@ module _ (n : ℕ) (vs rank : List ℕ) (R : RankedBelow n vs rank) (a : ℕ) (h
       go (no m) =
           le-ltb (getD rank a 0) k (omega arith)
           ∙ sym (is-false (mem (earlier vs k) a) (λ t. m (by-position .0 (in-earlier vs k a (mem-in (earlier vs k) a t)))))
+
+  -- what stands before position k is a post of the list, and has its position there
+  pub position-of : before rank k a ≡ true → (1 ≤ getD rank a 0) × (getD rank a 0 ≤ length vs) × (post vs (getD rank a 0) ≡ a)
+  position-of t =
+      let e = by-position .1 (ltb-true (getD rank a 0) k t) in
+      let q : getD rank a 0 ≡ e .0 = rw (e .3) at (R .position (e .0) (e .1) (omega (arith, e .2))) in
+      (omega (arith, e .1), omega (arith, e .2), ap (post vs) q ∙ e .3)
 
 -- a post placed, by its position
 pub placed-by : (n : ℕ) (vs rank : List ℕ) → RankedBelow n vs rank → (k : ℕ) → k ≤ length vs → (a : ℕ) → a < n → mem (take k vs) a ≡ before rank (k + 1) a

@@ -9,25 +9,27 @@ use Rattle.rings.specs.Plane.{Plane}
 use Rattle.rings.specs.Held.{held, Cuts}
 use Rattle.order.specs.Order.{runBegin, run}
 use Rattle.order.specs.Fitting.{FitsSoFar}
-use Rattle.order.specs.Ranked.{RankedBelow, RunsBefore}
+use Rattle.order.specs.Ranked.{RunsBefore}
 
--- all lists' entries, where each list begins, the list of posts, the positions by name, and where the run of each post begins in its ring and how
--- long it is; an accepted block's order is such a list
-pub record Fitted (at ents vs rank begin long : List ℕ) : Type 0 where
+-- all lists' entries, where each list begins, and the list of posts; an accepted block's order is such a list
+pub record Fitted (at ents vs : List ℕ) : Type 0 where
   pub vn : ℕ
   pub plane : Plane (held at ents) (post vs 1) (post vs 2) vn
   pub fits : FitsSoFar (held at ents) vn vs
   pub cuts : Cuts at ents
   pub three : 3 ≤ length vs
   pub most : length (held at ents) ≤ limit
-  pub ranked : RankedBelow (length (held at ents)) vs rank
+
+-- where the run of each of its posts from the third on begins in that post's ring, and how long it is, by position
+pub record RunsHeld (at ents vs begin long : List ℕ) : Type 0 where
   pub begins-room : length vs ≤ length begin
   pub lengths-room : length vs ≤ length long
   pub runs : RunsBefore (held at ents) vs begin long (length vs + 1)
 
 -- and one of its stages
-pub record Reachable (at ents vs rank begin long : List ℕ) (k : ℕ) : Type 0 where
-  pub fitted : Fitted at ents vs rank begin long
+pub record Reachable (at ents vs begin long : List ℕ) (k : ℕ) : Type 0 where
+  pub fitted : Fitted at ents vs
+  pub kept : RunsHeld at ents vs begin long
   pub least : 3 ≤ k
   pub most : k ≤ length vs
 

@@ -1,4 +1,5 @@
 pub mod OnBoards
 pub mod Steps
 pub mod Placed
+pub mod Fits
 pub mod Writing

@@ -41,8 +41,8 @@ fitRight G vs u = cond (leb 3 (positionOf vs u)) (lastOf u (runOf G vs u)) u
 unfoldable pub recordOf : List (List ℕ) → Stage → ℕ → Record
 recordOf G t u =
     cond (mem (t .placed) u)
-    (record { x = t .x u; y = t .y u; standing = standing t u; fit-left = fitLeft G (t .placed) u; fit-right = fitRight G (t .placed) u })
-    (record { x = 0; y = 0; standing = Waiting; fit-left = u; fit-right = u })
+    (record { x = t .x u; y = t .y u; standing = standing t u; leftmost = fitLeft G (t .placed) u; rightmost = fitRight G (t .placed) u })
+    (record { x = 0; y = 0; standing = Waiting; leftmost = u; rightmost = u })
 
 -- R6: two entries for each placed post in its turn, the column before the height
 unfoldable pub entriesOf : Stage → List ℕ

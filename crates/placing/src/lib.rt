@@ -20,8 +20,8 @@ pub struct Record {
     pub x: u16,
     pub y: u16,
     pub standing: Standing,
-    pub fit_left: u16,
-    pub fit_right: u16,
+    pub leftmost: u16,
+    pub rightmost: u16,
 }
 
 // The first 2k entries of the buffer become the sheet of stage k (R6); the others are not touched (R7).

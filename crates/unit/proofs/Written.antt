@@ -1,19 +1,14 @@
 -- What stands on a sheet: the entries of an accepted call are the stage's points, so demand 3 holds of them.
 use Prim.Native.Nat.{ℕ, zero, suc, _+_, _*_, _-_, _≤_, _<_}
 use mathlib.Core.Path.{_≡_, refl, sym, ap, _∙_, subst}
-use mathlib.Core.Bool.{Bool, true, false, true≢false}
 use mathlib.Core.Logic.{inl, inr}
 use mathlib.Core.List.{List, [], _∷_, _++_, flatMap}
 use native.Mathlib.Omega.{arith}
-use native.Mathlib.Decide.{decLt}
-use lib.Dec.{eqb}
 use lib.ListN.{length, getD, take, drop, length-take}
 use lib.Seq.{getD-take}
-use borrow.Author.Tests.{eq-eqb, eqb-true}
 use Rattle.words.specs.Lists.{In}
-use Rattle.words.specs.Positions.{post}
-use Rattle.words.proofs.First.{first-is}
-use Rattle.words.proofs.Positions.{in-take, take-in, post-suc}
+use Rattle.words.specs.Positions.{post, positionOf}
+use Rattle.words.proofs.Positions.{take-in, position-is}
 use Rattle.block.specs.Block.{posts, order, lists}
 use Rattle.rings.specs.Plane.{Wire}
 use Rattle.placing.specs.Stages.{stage}
@@ -23,7 +18,7 @@ use Rattle.drawing.specs.Meeting.{Places, Point, On, At, End, OnGrid, NoneMeet}
 use Rattle.lamp.specs.Lamp.{checkRows, sheetRows, stageRows, roomRows}
 use Rattle.lamp.specs.Given.{NoneApplies}
 use Rattle.unit.specs.Replies.{stageAt, sheetReply}
-use Rattle.unit.specs.Demands.{thePaper, Accepted, places, Placed, Moves, positionOf, onSheet, Safe, SafeSheets}
+use Rattle.unit.specs.Demands.{thePaper, Accepted, places, Placed, Moves, onSheet, Safe, SafeSheets}
 use Rattle.lamp.proofs.Given.{given-says, none-left, none-right}
 use Rattle.lamp.proofs.Loads.{order-length}
 use Rattle.lamp.proofs.Accepts.{lists-count, none-passes, stage-range}
@@ -43,24 +38,6 @@ module _ (x y : ℕ → ℕ) where
   pairs-y [] rest i h = absurd (omega arith)
   pairs-y (u ∷ l) rest zero h = refl
   pairs-y (u ∷ l) rest (suc i) h = let e : 2 * suc i + 1 ≡ suc (suc (2 * i + 1)) = omega arith in rw e (pairs-y l rest i (omega arith))
-
--- the position of a post that is among the first k
-position-is : (vs : List ℕ) (k u : ℕ) → In u (take k vs) → (positionOf vs u - 1 < k) × (positionOf vs u - 1 < length vs) × (getD vs (positionOf vs u - 1) 0 ≡ u)
-position-is vs k u h = go (in-take k vs u h)
-  where
-    F : ℕ
-    F = positionOf vs u
-
-    go : (i : ℕ) × (i < k) × (i < length vs) × (getD vs i 0 ≡ u) → (F - 1 < k) × (F - 1 < length vs) × (getD vs (F - 1) 0 ≡ u)
-    go t =
-        let S = first-is (λ j. eqb (post vs j) u) (length vs) 1 in
-        let here : eqb (post vs (suc (t .0))) u ≡ true = eq-eqb (post vs (suc (t .0))) u (post-suc vs (t .0) ∙ t .3) in
-        let le : F ≤ suc (t .0) = low (decLt (suc (t .0)) F) (S .before (suc (t .0)) (omega arith)) here in
-        (omega (arith, le, S .from, t .1), omega (arith, le, S .from, t .2), eqb-true (post vs F) u (S .there (omega (arith, le, t .2))))
-      where
-        low : {j : ℕ} {b : Bool} → Dec (j < F) → (j < F → b ≡ false) → b ≡ true → F ≤ j
-        low (yes l) f e = absurd (true≢false (sym e ∙ f l))
-        low (no n) f e = omega arith
 
 -- points that are the same at the ends lie on the same segments
 module _ (p q : Places) (Post : ℕ → Type 0) (same-x : (u : ℕ) → Post u → p .x u ≡ q .x u) (same-y : (u : ℕ) → Post u → p .y u ≡ q .y u) where

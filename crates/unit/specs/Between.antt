@@ -44,15 +44,15 @@ pub record FitBetween (U : Services) : Type 0 where
   pub to-second : (s : List ℕ) (n : ℕ) → U .check s ≡ accepted n → lastOf 0 (runAt s n) ≡ post (order s) 2
   -- the record of a post that stands at stage k has its run's first and last post, and v1's and v2's have their own names
   pub told : (s : List ℕ) (n k j : ℕ) (r : Record) → U .check s ≡ accepted n → 3 ≤ j → j ≤ k → U .post s k (post (order s) j) ≡ accepted r
-      → (r .fit-left ≡ post (runAt s j) 1) × (r .fit-right ≡ lastOf 0 (runAt s j))
+      → (r .leftmost ≡ post (runAt s j) 1) × (r .rightmost ≡ lastOf 0 (runAt s j))
   pub own : (s : List ℕ) (n k j : ℕ) (r : Record) → U .check s ≡ accepted n → 1 ≤ j → j ≤ n → (j ≤ 2) ⊎ (k < j)
-      → U .post s k (post (order s) j) ≡ accepted r → (r .fit-left ≡ post (order s) j) × (r .fit-right ≡ post (order s) j)
+      → U .post s k (post (order s) j) ≡ accepted r → (r .leftmost ≡ post (order s) j) × (r .rightmost ≡ post (order s) j)
   -- at every stage from its own on, a post is fitted between the ends that its record tells
   pub stages : (s : List ℕ) (n k j : ℕ) (r : Record) → U .check s ≡ accepted n → 3 ≤ j → j ≤ k → U .post s k (post (order s) j) ≡ accepted r
-      → Between s k (places s k) (r .fit-left) (post (order s) j) (r .fit-right)
+      → Between s k (places s k) (r .leftmost) (post (order s) j) (r .rightmost)
   -- so it is by the columns that the records of the three tell
   pub records : (s : List ℕ) (n k j : ℕ) (r a b : Record) → U .check s ≡ accepted n → 3 ≤ j → j ≤ k → U .post s k (post (order s) j) ≡ accepted r
-      → U .post s k (r .fit-left) ≡ accepted a → U .post s k (r .fit-right) ≡ accepted b → (a .x < r .x) × (r .x < b .x)
+      → U .post s k (r .leftmost) ≡ accepted a → U .post s k (r .rightmost) ≡ accepted b → (a .x < r .x) × (r .x < b .x)
   -- and by the numbers that a sheet call wrote
   pub sheets : (s : List ℕ) (k j : ℕ) (buffer : List ℕ) (r : Record) → Accepted (U .sheet s k buffer) → 3 ≤ j → j ≤ k
-      → U .post s k (post (order s) j) ≡ accepted r → Flanked (onSheet (order s) (U .buffer s k buffer)) (r .fit-left) (post (order s) j) (r .fit-right)
+      → U .post s k (post (order s) j) ≡ accepted r → Flanked (onSheet (order s) (U .buffer s k buffer)) (r .leftmost) (post (order s) j) (r .rightmost)

@@ -1,10 +1,10 @@
 -- Lists of names: membership, neighbours in a list, and a stretch of a list.
 use mathlib.Core.Path.{_≡_, refl, sym, ap, _∙_, subst}
 use mathlib.Core.Logic.{inl, inr}
-use Prim.Native.Nat.{ℕ, zero, suc, _≤_, _<_}
+use Prim.Native.Nat.{ℕ, zero, suc, _-_, _≤_, _<_}
 use native.Mathlib.Omega.{arith}
 use native.Mathlib.Decide.{ℕ-discrete}
-use lib.ListN.{length, length-append}
+use lib.ListN.{length, getD, length-append}
 use mathlib.Core.List.{List, [], _∷_, _++_, append-assoc}
 use Rattle.words.specs.Lists.{In, Head, Adj, lastOf}
 
@@ -146,6 +146,15 @@ module _ (p v q : ℕ) (M Y : List ℕ) where
 pub last-append : (x : ℕ) (X : List ℕ) (q : ℕ) (Y : List ℕ) → lastOf x (X ++ q ∷ Y) ≡ lastOf q Y
 last-append x [] q Y = refl
 last-append x (y ∷ X) q Y = last-append y X q Y
+
+pub last-at : (x : ℕ) (l : List ℕ) → 0 < length l → lastOf x l ≡ getD l (length l - 1) 0
+last-at x [] h = absurd (omega arith)
+last-at x (y ∷ []) h = refl
+last-at x (y ∷ z ∷ l) h = let e : length (y ∷ z ∷ l) - 1 ≡ suc (length (z ∷ l) - 1) = omega arith in rw e (last-at y (z ∷ l) (omega arith))
+
+pub last-any : (x y : ℕ) (l : List ℕ) → 0 < length l → lastOf x l ≡ lastOf y l
+last-any x y [] h = absurd (omega arith)
+last-any x y (z ∷ l) h = refl
 
 -- somebody stands before the last
 pub before-last : (p : ℕ) (M : List ℕ) (q : ℕ) → (m : ℕ) × Adj (p ∷ (M ++ q ∷ [])) m q

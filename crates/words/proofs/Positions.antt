@@ -1,13 +1,18 @@
 -- Earlier and later positions of an order, as lists and by positions.
 use mathlib.Core.Path.{_≡_, refl, sym, ap, _∙_}
 use mathlib.Core.Logic.{inl, inr}
+use mathlib.Core.Bool.{Bool, true, false, true≢false}
 use mathlib.Core.List.{List, [], _∷_, _++_}
 use Prim.Native.Nat.{ℕ, zero, suc, _+_, _-_, _≤_, _<_}
 use native.Mathlib.Omega.{arith}
+use native.Mathlib.Decide.{decLt}
+use lib.Dec.{eqb}
 use lib.ListN.{length, getD, take, drop, length-drop, take-append-drop}
 use lib.Seq.{getD-drop, take-suc, drop-cons}
-use Rattle.words.specs.Lists.{In}
-use Rattle.words.specs.Positions.{post, earlier, later, Earlier, Later}
+use borrow.Author.Tests.{eq-eqb, eqb-true}
+use Rattle.words.specs.Lists.{In, Different}
+use Rattle.words.specs.Positions.{post, earlier, later, positionOf, Earlier, Later}
+use Rattle.words.proofs.First.{first-is}
 use Rattle.words.proofs.Lists.{Once, in-cases, once-split}
 use Rattle.words.proofs.Tests.{place-in, in-place}
 
@@ -67,3 +72,29 @@ module _ (vs : List ℕ) (o : Once vs) (k : ℕ) (h : 1 ≤ k) (i : k ≤ length
 
   pub earlier-or : {C : Type 0} (a : ℕ) → In a vs → (In a (earlier vs k) → C) → (a ≡ post vs k → C) → (In a (later vs k) → C) → C
   earlier-or a j f g l = in-cases a (earlier vs k) (post vs k ∷ later vs k) f (elim [ inl e ↦ g e | inr m ↦ l m ]) (rw (at-position vs k h i) at j)
+
+-- the position of a post that is among the first k
+pub position-is : (vs : List ℕ) (k u : ℕ) → In u (take k vs) → (positionOf vs u - 1 < k) × (positionOf vs u - 1 < length vs) × (getD vs (positionOf vs u - 1) 0 ≡ u)
+position-is vs k u h = go (in-take k vs u h)
+  where
+    F : ℕ
+    F = positionOf vs u
+
+    go : (i : ℕ) × (i < k) × (i < length vs) × (getD vs i 0 ≡ u) → (F - 1 < k) × (F - 1 < length vs) × (getD vs (F - 1) 0 ≡ u)
+    go t =
+        let S = first-is (λ j. eqb (post vs j) u) (length vs) 1 in
+        let here : eqb (post vs (suc (t .0))) u ≡ true = eq-eqb (post vs (suc (t .0))) u (post-suc vs (t .0) ∙ t .3) in
+        let le : F ≤ suc (t .0) = low (decLt (suc (t .0)) F) (S .before (suc (t .0)) (omega arith)) here in
+        (omega (arith, le, S .from, t .1), omega (arith, le, S .from, t .2), eqb-true (post vs F) u (S .there (omega (arith, le, t .2))))
+      where
+        low : {j : ℕ} {b : Bool} → Dec (j < F) → (j < F → b ≡ false) → b ≡ true → F ≤ j
+        low (yes l) f e = absurd (true≢false (sym e ∙ f l))
+        low (no n) f e = omega arith
+
+-- where no name repeats, the post in position j has that position
+pub position-at : (vs : List ℕ) → Different vs → (j : ℕ) → 1 ≤ j → j ≤ length vs → positionOf vs (post vs j) ≡ j
+position-at vs d j h i =
+    let P = position-is vs (length vs) (post vs j) (take-in (length vs) vs (j - 1) (omega arith) (omega arith)) in
+    let from = first-is (λ k. eqb (post vs k) (post vs j)) (length vs) 1 .from in
+    let e = d (positionOf vs (post vs j) - 1) (j - 1) (P .1) (omega arith) (P .2) in
+    omega arith

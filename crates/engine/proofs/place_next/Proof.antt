@@ -1,11 +1,31 @@
 use borrow.Author.Needs.{needs}
 use Rattle.engine.proofs.place_next.Statement.{statement}
 use Rattle.engine.proofs.place_next.Tie as tie
-use mathlib.Core.Path.{refl}
+use native.Mathlib.Omega.{arith}
+use Prim.Native.Nat.{ℕ, _+_, _-_}
+use mathlib.Core.Path.{_≡_, refl, ap, sym, _∙_}
+use lib.ListN.{getD}
 use Rattle.engine.proofs.NextPost.{next-ready, next-holds}
+use Rattle.engine.proofs.Ending.{two-posts, many-is, kept-run}
 
-next-run-requires : tie.Need-next-run-requires
-next-run-requires c κs = search needs
+add-of-run : tie.Need-add-of-run
+add-of-run c = search needs
+
+of-run-requires : tie.Need-of-run-requires
+of-run-requires c κs =
+    let entry = c .before .before .before .before .before .before .before .before .before .before in
+    let pre = entry .pre in
+    let two = two-posts _ _ _ (pre .0) _ _ (pre .1) (entry .args .k + 1) (omega arith) (omega arith) (omega arith) in
+    kept-run _ _ _ (pre .0) _ _ (pre .1) _ (omega arith) (omega arith) (omega arith) 0 (omega (arith, two))
+
+mul-number : tie.Need-mul-number
+mul-number c = search needs
+
+shared-slice-read-number : tie.Need-shared-slice-read-number
+shared-slice-read-number c = search needs
+
+number-requires : tie.Need-number-requires
+number-requires c κs = search needs
 
 mul-place-over : tie.Need-mul-place-over
 mul-place-over c = search needs
@@ -15,11 +35,14 @@ shared-slice-read-place-over c = search needs
 
 place-over-requires : tie.Need-place-over-requires
 place-over-requires c κs =
-    let found = c .before .before .before .before .before .before in
-    let run = found .next-run .ensures in
-    let lent = found .before .before .before .before .before in
-    let pre = lent .before .before .before .before .before .pre in
-    next-ready _ _ _ _ (pre .0) _ (pre .1) (pre .2) _ _ _ refl (run .0) (run .1) _ _ _ _ _ (pre .3)
+    let sized = c .before .before .before .before .before .before in
+    let found = sized .before .before in
+    let entry = found .before .before .before .before .before .before .before .before .before .before .before in
+    let pre = entry .pre in
+    let next : entry .args .k + 1 - 1 ≡ entry .args .k = omega arith in
+    let many = sized .number .ensures .0 ∙ sym (ap (λ (i : ℕ). getD (entry .args .long .now) i 0) next)
+    ∙ many-is _ _ _ (pre .0) _ _ (pre .1) (entry .args .k + 1) (omega arith) (omega arith) (omega arith) in
+    next-ready _ _ _ (pre .0) _ (pre .2) (pre .3) _ _ _ refl (found .of-run .ensures) many _ _ _ _ _ (pre .4)
 
 same-length : tie.Need-same-length
 same-length c = search needs
@@ -38,19 +61,25 @@ same-length-5 c = search needs
 
 returns : tie.Need-returns
 returns c =
-    let off = c .before .before .before .before .before .before .before in
-    let over = off .before .before .before in
-    let found = over .before .before .before .before .before .before .before in
-    let run = found .next-run .ensures in
-    let lent = found .before .before .before .before .before in
-    let pre = lent .before .before .before .before .before .pre in
-    next-holds _ _ _ _ (pre .0) _ (pre .1) (pre .2) _ _ _ refl (run .0) (run .1) _ _ _ _ _ (pre .3) _ _ _ _ _ (over .place-over .ensures)
+    let over = c .before .before .before .before .before .before .before .before .before .before in
+    let sized = over .before .before .before .before .before .before .before in
+    let found = sized .before .before in
+    let entry = found .before .before .before .before .before .before .before .before .before .before .before in
+    let pre = entry .pre in
+    let next : entry .args .k + 1 - 1 ≡ entry .args .k = omega arith in
+    let many = sized .number .ensures .0 ∙ sym (ap (λ (i : ℕ). getD (entry .args .long .now) i 0) next)
+    ∙ many-is _ _ _ (pre .0) _ _ (pre .1) (entry .args .k + 1) (omega arith) (omega arith) (omega arith) in
+    next-holds _ _ _ (pre .0) _ (pre .2) (pre .3) _ _ _ refl (found .of-run .ensures) many _ _ _ _ _ (pre .4) _ _ _ _ _ (over .place-over .ensures)
 
 pub place-next-spec : {M : Type 1} → statement M
 place-next-spec =
     tie.close
     (tie.spec
-    next-run-requires
+    add-of-run
+    of-run-requires
+    mul-number
+    shared-slice-read-number
+    number-requires
     mul-place-over
     shared-slice-read-place-over
     place-over-requires

@@ -9,12 +9,12 @@ use Rattle.engine.proofs.StageThree.{corners-ready, third-holds}
 use borrow.Author.Needs.{needs}
 
 abbrev Inv-loop : tie.InvT-loop
-Inv-loop at ents vs rank k ys₀ off₀ cover₀ left₀ right₀ i₀ ys off cover left right i = (3 ≤ i) × (i ≤ k)
+Inv-loop at ents vs begin long k ys₀ off₀ cover₀ left₀ right₀ i₀ ys off cover left right i = (3 ≤ i) × (i ≤ k)
     × Holds at ents vs i ys off cover left right × (length ys ≡ length ys₀) × (length off ≡ length off₀) × (length cover ≡ length cover₀)
     × (length left ≡ length left₀) × (length right ≡ length right₀)
 
 abbrev μ-loop : tie.MeasureT-loop
-μ-loop at ents vs rank k ys₀ off₀ cover₀ left₀ right₀ i₀ ys off cover left right i = k - i
+μ-loop at ents vs begin long k ys₀ off₀ cover₀ left₀ right₀ i₀ ys off cover left right i = k - i
 
 shared-slice-read-start : tie.Need-shared-slice-read-start Inv-loop μ-loop
 shared-slice-read-start c = search needs
@@ -27,22 +27,17 @@ shared-slice-read-start-3 c = search needs
 
 start-requires : tie.Need-start-requires Inv-loop μ-loop
 start-requires c κs =
-    let read = c .before .before .before .before .before in
-    let shared = read .before .before .before .before .before .before .before in
-    let entry = shared .before .before .before .before .before in
-    corners-ready _ _ _ _ _ _ _ _ _ (entry .pre .0 .fitted) (entry .pre .1)
+    let entry = c .before .before .before .before .before .before .before .before .before .before .before .before .before .before .before .before .before .before in
+    corners-ready _ _ _ _ _ _ _ _ (entry .pre .0 .fitted) (entry .pre .1)
 
 loop-holds : tie.Need-loop-holds Inv-loop μ-loop
 loop-holds c =
-    let cover = c .before .before .before .before .before in
-    let started = cover .before .before .before .before .before in
-    let read = started .before .before .before .before .before .before in
-    let shared = read .before .before .before .before .before .before .before in
-    let entry = shared .before .before .before .before .before in
+    let started = c .before .before .before .before .before .before .before .before .before .before in
+    let entry = started .before .before .before .before .before .before .before .before .before .before .before .before .before .before .before .before .before .before .before in
     let begun = started .start .ensures in (
       search needs,
       search needs,
-      third-holds _ _ _ _ _ _ _ _ _ (entry .pre .0 .fitted) (entry .pre .1) _ _ _ _ _ begun (search needs) (search needs) (search needs) (search needs)
+      third-holds _ _ _ _ _ _ _ _ (entry .pre .0 .fitted) (entry .pre .1) _ _ _ _ _ begun (search needs) (search needs) (search needs) (search needs)
           (search needs),
       search needs,
       search needs,
@@ -55,23 +50,14 @@ place-next-requires : tie.Need-place-next-requires Inv-loop μ-loop
 place-next-requires c κs =
     let in-loop = c .before .before .before .before .before in
     let turn = in-loop .before in
-    let cover = turn .before .before .before .before .before .before in
-    let started = cover .before .before .before .before .before in
-    let read = started .before .before .before .before .before .before in
-    let shared = read .before .before .before .before .before .before .before in
-    let entry = shared .before .before .before .before .before in
-    (entry .pre .0 .fitted, turn .loop .inv .0, omega (arith, in-loop .loop-test .taken, entry .pre .0 .most), turn .loop .inv .2)
+    let entry = turn .before .before .before .before .before .before .before .before .before .before .before .before .before .before .before .before .before .before .before .before .before .before .before .before .before .before .before .before .before .before in
+    let stage = entry .pre .0 in
+    (stage .fitted, stage .kept, turn .loop .inv .0, omega (arith, in-loop .loop-test .taken, stage .most), turn .loop .inv .2)
 
 add-i : tie.Need-add-i Inv-loop μ-loop
 add-i c =
-    let cover2 = c .before .before .before .before .before in
-    let placed = cover2 .before .before .before .before .before in
-    let turn = placed .before .before .before .before .before .before .before in
-    let cover = turn .before .before .before .before .before .before in
-    let started = cover .before .before .before .before .before in
-    let read = started .before .before .before .before .before .before in
-    let shared = read .before .before .before .before .before .before .before in
-    let entry = shared .before .before .before .before .before in
+    let turn = c .before .before .before .before .before .before .before .before .before .before .before .before .before .before .before .before .before in
+    let entry = turn .before .before .before .before .before .before .before .before .before .before .before .before .before .before .before .before .before .before .before .before .before .before .before .before .before .before .before .before .before .before in
     omega (arith, turn .loop .inv .1, entry .pre .0 .most, entry .pre .0 .fitted .most)
 
 loop-less : tie.Need-loop-less Inv-loop μ-loop
@@ -79,8 +65,7 @@ loop-less c = search needs
 
 loop-again : tie.Need-loop-again Inv-loop μ-loop
 loop-again c =
-    let cover2 = c .before .before .before .before .before in
-    let placed = cover2 .before .before .before .before .before in
+    let placed = c .before .before .before .before .before .before .before .before .before .before in
     (search needs, search needs, placed .place-next .ensures, search needs, search needs, search needs, search needs, search needs)
 
 same-length : tie.Need-same-length Inv-loop μ-loop
@@ -101,11 +86,7 @@ same-length-5 c = search needs
 returns : tie.Need-returns Inv-loop μ-loop
 returns c =
     let turn = c .before in
-    let cover = turn .before .before .before .before .before .before in
-    let started = cover .before .before .before .before .before in
-    let read = started .before .before .before .before .before .before in
-    let shared = read .before .before .before .before .before .before .before in
-    let entry = shared .before .before .before .before .before in
+    let entry = turn .before .before .before .before .before .before .before .before .before .before .before .before .before .before .before .before .before .before .before .before .before .before .before .before .before .before .before .before .before .before in
     let args = entry .args in
     let now = turn .loop in
     let q : now .i ≡ args .k = omega arith in

@@ -1,7 +1,15 @@
 use borrow.Author.Needs.{needs}
 use Rattle.engine.proofs.record_at.Statement.{statement}
 use Rattle.engine.proofs.record_at.Tie as tie
-use Rattle.engine.proofs.Recording.{record-waiting, record-on, record-covered}
+use native.Mathlib.Omega.{arith}
+use Prim.Native.Nat.{ℕ, _+_}
+use mathlib.Core.Path.{_≡_, ap, sym, _∙_}
+use lib.ListN.{getD}
+use borrow.Author.Tests.{not-false}
+use Rattle.words.specs.Positions.{post}
+use Rattle.rings.specs.Held.{held}
+use Rattle.order.proofs.Ranked.{position-of}
+use Rattle.engine.proofs.Recording.{record-waiting, record-placed}
 
 add-is-before : tie.Need-add-is-before
 add-is-before c = search needs
@@ -12,74 +20,67 @@ is-before-requires c κs = search needs
 returns : tie.Need-returns
 returns c =
     let asked = c .before in
-    let of = asked .before .before .before .before .before .before .before .args in
-    record-waiting (of .rank .now) (of .k) (of .xs .now) (of .ys .now) (of .cover .now) (of .left .now) (of .right .now) (of .u) (asked .is-before .result)
-    (asked .is-before .ensures) (c .if1 .taken)
+    let a = asked .before .before .before .before .before .before .before .before .before .before .before .before .args in
+    record-waiting (held (a .at .now) (a .ents .now)) (a .vs .now) (a .rank .now) (a .k) (a .xs .now) (a .ys .now) (a .cover .now) (a .left .now)
+    (a .right .now) (a .u) (asked .is-before .result) (asked .is-before .ensures) (c .if1 .taken)
 
 number-requires : tie.Need-number-requires
 number-requires c κs = search needs
 
-mul-c : tie.Need-mul-c
-mul-c c = search needs
+mul-number : tie.Need-mul-number
+mul-number c = search needs
 
-shared-slice-read-c : tie.Need-shared-slice-read-c
-shared-slice-read-c c = search needs
+shared-slice-read-number : tie.Need-shared-slice-read-number
+shared-slice-read-number c = search needs
+
+number-requires-2 : tie.Need-number-requires-2
+number-requires-2 c κs = search needs
+
+ends-of-requires : tie.Need-ends-of-requires
+ends-of-requires c κs =
+    let numbered = c .before .before in
+    let standing = numbered .before in
+    let asked = standing .before in
+    let entry = asked .before .before .before .before .before .before .before .before .before .before .before .before in
+    let a = entry .args in
+    let u = numbered .number .ensures .0 in
+    let position = c .number2 .ensures .0 ∙ ap (λ (n : ℕ). getD (a .rank .now) n 0) u in
+    let placed = sym (asked .is-before .ensures) ∙ not-false (asked .is-before .result) (standing .if1 .left) in
+    let known = position-of _ _ _ (entry .pre .1) (a .u) (entry .pre .2) (a .k + 1) (omega (arith, entry .pre .0 .most)) placed in
+    (entry .pre .0 .fitted, entry .pre .0 .kept, omega (arith, position, known .0), omega (arith, position, known .1))
 
 mul-t17 : tie.Need-mul-t17
 mul-t17 c = search needs
 
-shared-slice-read-t19 : tie.Need-shared-slice-read-t19
-shared-slice-read-t19 c = search needs
+shared-slice-read-t22 : tie.Need-shared-slice-read-t22
+shared-slice-read-t22 c = search needs
 
 mul-t20 : tie.Need-mul-t20
 mul-t20 c = search needs
 
-shared-slice-read-t22 : tie.Need-shared-slice-read-t22
-shared-slice-read-t22 c = search needs
-
-mul-t23 : tie.Need-mul-t23
-mul-t23 c = search needs
-
 shared-slice-read-t25 : tie.Need-shared-slice-read-t25
 shared-slice-read-t25 c = search needs
 
-mul-t26 : tie.Need-mul-t26
-mul-t26 c = search needs
-
-shared-slice-read-t28 : tie.Need-shared-slice-read-t28
-shared-slice-read-t28 c = search needs
+standing-at-requires : tie.Need-standing-at-requires
+standing-at-requires c κs = search needs
 
 returns-2 : tie.Need-returns-2
 returns-2 c =
-    let bare = c .before .before .before .before in
-    let number = bare .before .before .number in
-    let standing = bare .before .before .before in
+    let found = c .before .before .before in
+    let numbered = found .before .before .before in
+    let standing = numbered .before in
     let asked = standing .before in
-    let of = asked .before .before .before .before .before .before .before .args in
-    record-on (of .rank .now) (of .k) (of .xs .now) (of .ys .now) (of .cover .now) (of .left .now) (of .right .now) (of .u) (asked .is-before .result)
-    (asked .is-before .ensures) (standing .if1 .left) (number .result) (number .ensures .0) (bare .if2 .taken)
-
-mul-t12 : tie.Need-mul-t12
-mul-t12 c = search needs
-
-shared-slice-read-t16 : tie.Need-shared-slice-read-t16
-shared-slice-read-t16 c = search needs
-
-mul-t31 : tie.Need-mul-t31
-mul-t31 c = search needs
-
-shared-slice-read-t33 : tie.Need-shared-slice-read-t33
-shared-slice-read-t33 c = search needs
-
-returns-3 : tie.Need-returns-3
-returns-3 c =
-    let covered = c .before .before in
-    let number = covered .before .before .number in
-    let standing = covered .before .before .before in
-    let asked = standing .before in
-    let of = asked .before .before .before .before .before .before .before .args in
-    record-covered (of .rank .now) (of .k) (of .xs .now) (of .ys .now) (of .cover .now) (of .left .now) (of .right .now) (of .u) (asked .is-before .result)
-    (asked .is-before .ensures) (standing .if1 .left) (number .result) (number .ensures .0) (covered .if2 .left)
+    let entry = asked .before .before .before .before .before .before .before .before .before .before .before .before in
+    let a = entry .args in
+    let u = numbered .number .ensures .0 in
+    let position = found .before .number2 .ensures .0 ∙ ap (λ (n : ℕ). getD (a .rank .now) n 0) u in
+    let placed = sym (asked .is-before .ensures) ∙ not-false (asked .is-before .result) (standing .if1 .left) in
+    let known = position-of _ _ _ (entry .pre .1) (a .u) (entry .pre .2) (a .k + 1) (omega (arith, entry .pre .0 .most)) placed in
+    let ends = found .ends-of .ensures in
+    let is : post (a .vs .now) (found .before .number2 .result) ≡ a .u = ap (post (a .vs .now)) position ∙ known .2 in
+    record-placed (held (a .at .now) (a .ents .now)) (a .vs .now) (a .rank .now) (a .k) (a .xs .now) (a .ys .now) (a .cover .now) (a .left .now)
+    (a .right .now) (a .u) (asked .is-before .result) (asked .is-before .ensures) (standing .if1 .left) _ u _ (c .standing-at .ensures) _ _
+    (rw is at (ends .0)) (rw is at (ends .1))
 
 pub record-at-spec : {M : Type 1} → statement M
 record-at-spec =
@@ -89,19 +90,13 @@ record-at-spec =
     is-before-requires
     returns
     number-requires
-    mul-c
-    shared-slice-read-c
+    mul-number
+    shared-slice-read-number
+    number-requires-2
+    ends-of-requires
     mul-t17
-    shared-slice-read-t19
-    mul-t20
     shared-slice-read-t22
-    mul-t23
+    mul-t20
     shared-slice-read-t25
-    mul-t26
-    shared-slice-read-t28
-    returns-2
-    mul-t12
-    shared-slice-read-t16
-    mul-t31
-    shared-slice-read-t33
-    returns-3)
+    standing-at-requires
+    returns-2)

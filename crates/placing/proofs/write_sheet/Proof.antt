@@ -1,13 +1,15 @@
 use Rattle.placing.proofs.write_sheet.Statement.{statement}
 use Rattle.placing.proofs.write_sheet.Tie as tie
 use native.Mathlib.Omega.{arith}
-use Prim.Native.Nat.{_-_}
-use Rattle.placing.proofs.Writing.{Writing, write-start, write-done, write-again}
-use lib.ListN.{length-set}
+use Prim.Native.Nat.{ℕ, _*_, _-_}
+use mathlib.Core.Path.{ap, sym, _∙_}
+use mathlib.Core.List.{List, _++_}
+use Rattle.placing.proofs.Writing.{Writing, write-start, write-done, write-again, pairs-twos}
+use lib.ListN.{getD, take, drop, length-set}
 use borrow.Author.Needs.{needs}
 
 abbrev Inv-loop : tie.InvT-loop
-Inv-loop vs k xs ys buffer₀ i₀ buffer i = Writing vs k xs ys buffer₀ buffer i
+Inv-loop vs k xs ys buffer₀ i₀ buffer i = Writing (λ u. getD xs u 0) (λ u. getD ys u 0) vs k buffer₀ buffer i
 
 abbrev μ-loop : tie.MeasureT-loop
 μ-loop vs k xs ys buffer₀ i₀ buffer i = k - i
@@ -75,13 +77,20 @@ loop-again : tie.Need-loop-again Inv-loop μ-loop
 loop-again c =
     let turn = c .before .before .before .before .before in
     let entry = turn .before .before .before .before .before in
-    write-again _ _ _ _ _ _ _ (turn .loop .inv) (search needs) (entry .pre .0) (entry .pre .2) _ (c .before .before .number .ensures .0)
+    let a = entry .args in
+    let u = c .before .before .number .ensures .0 in
+    write-again _ _ _ _ _ _ _ (turn .loop .inv) (search needs) (entry .pre .0) (entry .pre .2) _ _
+    (ap (λ (n : ℕ). getD (a .xs .now) n 0) u) (ap (λ (n : ℕ). getD (a .ys .now) n 0) u)
 
 same-length : tie.Need-same-length Inv-loop μ-loop
 same-length c = c .before .loop .inv .same
 
 returns : tie.Need-returns Inv-loop μ-loop
-returns c = write-done _ _ _ _ _ _ _ (c .before .loop .inv) (search needs)
+returns c =
+    let a = c .before .before .before .before .before .before .args in
+    let l = take (a .k) (a .vs .now) in
+    write-done _ _ _ _ _ _ _ (c .before .loop .inv) (search needs)
+    ∙ ap (λ (r : List ℕ). r ++ drop (2 * a .k) (a .buffer .now)) (sym (pairs-twos (a .xs .now) (a .ys .now) l))
 
 pub write-sheet-spec : {M : Type 1} → statement M
 write-sheet-spec =
