@@ -42,7 +42,7 @@ module _ (at ents vs : List ℕ) (A : Fitted at ents vs) (begin long : List ℕ)
     two-posts = run-two (held at ents) (A .vn) vs (A .plane) (A .fits) j l i
 
     pub many-is : getD long (j - 1) 0 ≡ length (run (held at ents) (earlier vs j) (post vs j))
-    many-is = R .runs .lasts j l (omega arith)
+    many-is = R .runs .long-is j l (omega arith)
 
     pub kept-run : (a : ℕ) → a < length (run (held at ents) (earlier vs j) (post vs j)) → RunKept at ents vs begin j a
     kept-run a q =
@@ -52,7 +52,7 @@ module _ (at ents vs : List ℕ) (A : Fitted at ents vs) (begin long : List ℕ)
           most = i;
           low = A .fits .below (post vs j) (place-in vs (j - 1) (omega arith));
           room = omega (arith, R .begins-room);
-          begins = R .runs .begins j l (omega arith);
+          begins = R .runs .begin-is j l (omega arith);
           inside = q;
         }
 
@@ -63,7 +63,7 @@ module _ (at ents vs : List ℕ) (A : Fitted at ents vs) (begin long : List ℕ)
         → b ≡ fitRight (held at ents) vs (post vs j)
     right-is m b em e =
         let q = em ∙ many-is in
-        e ∙ ap (λ (n : ℕ). getD the-run (n - 1) 0) q ∙ sym (last-at (post vs j) the-run (omega (arith, two-posts)))
+        e ∙ ap (λ (n : ℕ). getD the-run (n - 1) 0) q ∙ sym (last-at 0 the-run (omega (arith, two-posts)))
         ∙ sym (right-end (held at ents) vs (A .fits .once) j h i l)
 
 -- the ends of the first k posts, as of the whole list

@@ -15,7 +15,7 @@ use Rattle.words.proofs.Positions.{in-later, earlier-next, post-new, earlier-or
 use Rattle.rings.specs.Rings.{ring}
 use Rattle.rings.proofs.Around.{After, around-next}
 use Rattle.rings.proofs.Says.{Faces, entry-below, entry-other}
-use Rattle.order.specs.Order.{twoPlaced, lead, rest, oneRun, oneLater, run}
+use Rattle.order.specs.Order.{twoPlaced, lead, rest, oneRun, oneLater, runBegin, run}
 use Rattle.order.proofs.Contour.{Run, Contour, contour-start, run-stretch, contour-kept, run-all}
 use Rattle.order.proofs.Tests.{lead-rest, from-out}
 use Rattle.order.proofs.Runs.{rings, RunIs, the-run-is, whole-is-last}
@@ -27,6 +27,7 @@ pub record Grown (G : List (List ℕ)) (v1 v2 : ℕ) (placed K : List ℕ) (v : 
   pub Y : List ℕ
   pub p : ℕ
   pub q : ℕ
+  pub begin-in : runBegin G placed v < length (ring G v)
   pub run-is : run G placed v ≡ p ∷ (M ++ q ∷ [])
   pub the-run : Run (After G) placed v p M q
   pub no-turn : ¬ (Adj (p ∷ (M ++ q ∷ [])) v2 v1)
@@ -62,6 +63,7 @@ module _ (G : List (List ℕ)) (F : Faces G) (v1 v2 vn : ℕ) (outer : After G v
             Y = s .1;
             p = r .p;
             q = r .q;
+            begin-in = r .begin-in;
             run-is = r .run-is;
             the-run = r .the-run;
             no-turn = r .no-turn;

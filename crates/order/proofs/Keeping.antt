@@ -13,15 +13,15 @@ use Rattle.order.specs.Ranked.{RunsBefore}
 module _ (G : List (List ℕ)) (vs begin long : List ℕ) where
   -- there is none before position 3
   pub runs-none : RunsBefore G vs begin long 3
-  runs-none = record { begins = λ k h i. absurd (omega arith); lasts = λ k h i. absurd (omega arith) }
+  runs-none = record { begin-is = λ k h i. absurd (omega arith); long-is = λ k h i. absurd (omega arith) }
 
   -- one position more, with the run that was found there
   pub runs-more : (k b m : ℕ) → 1 ≤ k → k ≤ length begin → k ≤ length long → b ≡ runBegin G (earlier vs k) (post vs k)
       → m ≡ length (run G (earlier vs k) (post vs k)) → RunsBefore G vs begin long k → RunsBefore G vs (set begin (k - 1) b) (set long (k - 1) m) (k + 1)
   runs-more k b m h i l eb em R =
       record {
-        begins = λ j f g. at begin b j i (λ n. runBegin G (earlier vs n) (post vs n)) eb (λ e. R .begins j f e) f g (ℕ-discrete j k);
-        lasts = λ j f g. at long m j l (λ n. length (run G (earlier vs n) (post vs n))) em (λ e. R .lasts j f e) f g (ℕ-discrete j k);
+        begin-is = λ j f g. at begin b j i (λ n. runBegin G (earlier vs n) (post vs n)) eb (λ e. R .begin-is j f e) f g (ℕ-discrete j k);
+        long-is = λ j f g. at long m j l (λ n. length (run G (earlier vs n) (post vs n))) em (λ e. R .long-is j f e) f g (ℕ-discrete j k);
       }
     where
       -- the entry for position j, in either list

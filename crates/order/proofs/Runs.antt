@@ -19,7 +19,7 @@ use Rattle.words.proofs.Tests.{holds, is-true, either, or-left, or-right, mem-i
 use Rattle.rings.specs.Rings.{ring, around}
 use Rattle.rings.proofs.Around.{After, around-one, around-in, around-next, around-cut, around-turn}
 use Rattle.rings.proofs.Says.{Faces, entry-other, ring-once, is-name, follows-name}
-use Rattle.order.specs.Order.{twoPlaced, from, lead, rest, leads, oneRun, begins, run}
+use Rattle.order.specs.Order.{twoPlaced, from, lead, rest, leads, oneRun, begins, runBegin, run}
 use Rattle.order.proofs.Contour.{Rings, Run, Contour, run-no-turn, full-is-last}
 use Rattle.order.proofs.Tests.{lead-rest, lead-placed, leads-says, says-leads, from-out, from-at, begins-says, says-begins}
 
@@ -121,6 +121,7 @@ pub record RunIs (G : List (List ℕ)) (v1 v2 : ℕ) (placed : List ℕ) (v : �
   pub p : ℕ
   pub M : List ℕ
   pub q : ℕ
+  pub begin-in : runBegin G placed v < length (ring G v)
   pub run-is : run G placed v ≡ p ∷ (M ++ q ∷ [])
   pub the-run : Run (After G) placed v p M q
   pub no-turn : ¬ (Adj (p ∷ (M ++ q ∷ [])) v2 v1)
@@ -212,7 +213,7 @@ module _ (G : List (List ℕ)) (F : Faces G) (v1 v2 vn : ℕ) (outer : After G v
     the-run-is =
         let f = first-found (begins G placed v) 0 (length (ring G v)) (place .0) (omega arith) (omega (arith, place .1)) (is-true _ (place .2)) in
         let r = begins-run (first 0 (length (ring G v)) (begins G placed v)) (omega (arith, f .0)) (holds _ (f .1)) in
-        record { p = r .0; M = r .1; q = r .2; run-is = r .3; the-run = r .4; no-turn = r .5 }
+        record { p = r .0; M = r .1; q = r .2; begin-in = omega (arith, f .0); run-is = r .3; the-run = r .4; no-turn = r .5 }
 
   -- a new post with a neighbour, all of whose neighbours are placed, is vn
   pub whole-is-last : (placed K : List ℕ) (v : ℕ) → Contour (After G) v1 v2 placed K → ¬ (In v placed) → (x : ℕ) → In x (ring G v)

@@ -40,8 +40,8 @@ pub record Listed (at ents vs rank : List ℕ) : Type 0 where
 
 -- where the run of the post in position k begins, and how long it is, stand in the k-th places of two lists, for positions from 3 to before m
 pub record RunsBefore (G : List (List ℕ)) (vs begin long : List ℕ) (m : ℕ) : Type 0 where
-  pub begins : (k : ℕ) → 3 ≤ k → k < m → getD begin (k - 1) 0 ≡ runBegin G (earlier vs k) (post vs k)
-  pub lasts : (k : ℕ) → 3 ≤ k → k < m → getD long (k - 1) 0 ≡ length (run G (earlier vs k) (post vs k))
+  pub begin-is : (k : ℕ) → 3 ≤ k → k < m → getD begin (k - 1) 0 ≡ runBegin G (earlier vs k) (post vs k)
+  pub long-is : (k : ℕ) → 3 ≤ k → k < m → getD long (k - 1) 0 ≡ length (run G (earlier vs k) (post vs k))
 
 -- what 12 and 13 find in v, the next post: where its run begins in its ring, and how long it is; or fewer than two placed neighbours; or not one run
 abbrev pub fitOf : List (List ℕ) → List ℕ → ℕ → Fit

@@ -17,7 +17,7 @@ use Rattle.rings.specs.Rings.{ring}
 use Rattle.rings.specs.Plane.{Plane}
 use Rattle.rings.proofs.Around.{After}
 use Rattle.rings.proofs.Says.{entry-other, entry-returned}
-use Rattle.order.specs.Order.{run}
+use Rattle.order.specs.Order.{runBegin, run}
 use Rattle.order.proofs.Contour.{Run, Contour}
 use Rattle.order.proofs.Growth.{Grown, run-near, run-whole}
 use Rattle.order.specs.Fitting.{FitsSoFar}
@@ -60,6 +60,7 @@ pub record Step (G : List (List ℕ)) (t : Stage) (v : ℕ) : Type 0 where
   pub Y : List ℕ
   pub p : ℕ
   pub q : ℕ
+  pub begin-in : runBegin G (t .placed) v < length (ring G v)
   pub run-is : run G (t .placed) v ≡ p ∷ (M ++ q ∷ [])
   pub the-run : Run (After G) (t .placed) v p M q
   pub before : t .contour ≡ X ++ p ∷ (M ++ q ∷ Y)
@@ -189,6 +190,7 @@ module _ (G : List (List ℕ)) (vn : ℕ) (vs : List ℕ) (P : Plane G (post vs 
             Y = g .Y;
             p = g .p;
             q = g .q;
+            begin-in = g .begin-in;
             run-is = g .run-is;
             the-run = g .the-run;
             before = g .before;
@@ -214,6 +216,9 @@ module _ (G : List (List ℕ)) (vn : ℕ) (vs : List ℕ) (P : Plane G (post vs 
     third-ends : let g = third-grown in
         (g .p ∷ (g .M ++ g .q ∷ []) ≡ post vs 1 ∷ post vs 2 ∷ []) × (g .X ++ g .p ∷ post vs 3 ∷ g .q ∷ g .Y ≡ post vs 1 ∷ post vs 3 ∷ post vs 2 ∷ [])
     third-ends = let g = third-grown in two-long (g .X) (g .M) (g .Y) (post vs 1) (post vs 2) (post vs 3) (g .p) (g .q) (g .before)
+
+    pub third-begin : runBegin G (earlier vs 3) (post vs 3) < length (ring G (post vs 3))
+    third-begin = third-grown .begin-in
 
     pub third-run : run G (earlier vs 3) (post vs 3) ≡ post vs 1 ∷ post vs 2 ∷ []
     third-run = third-grown .run-is ∙ third-ends .0

@@ -35,7 +35,7 @@ unfoldable pub fitLeft : List (List ℕ) → List ℕ → ℕ → ℕ
 fitLeft G vs u = cond (leb 3 (positionOf vs u)) (post (runOf G vs u) 1) u
 
 unfoldable pub fitRight : List (List ℕ) → List ℕ → ℕ → ℕ
-fitRight G vs u = cond (leb 3 (positionOf vs u)) (lastOf u (runOf G vs u)) u
+fitRight G vs u = cond (leb 3 (positionOf vs u)) (lastOf 0 (runOf G vs u)) u
 
 -- R2: where a post waits, both numbers are 0; and its own name stands for both ends
 unfoldable pub recordOf : List (List ℕ) → Stage → ℕ → Record

@@ -14,12 +14,12 @@ use Rattle.words.proofs.Positions.{take-in}
 use Rattle.rings.specs.Rings.{ring}
 use Rattle.rings.specs.Plane.{Plane}
 use Rattle.rings.proofs.Says.{Faces}
-use Rattle.order.specs.Order.{run}
+use Rattle.order.specs.Order.{runBegin, run}
 use Rattle.order.specs.Fitting.{FitsSoFar}
 use Rattle.order.proofs.Growth.{run-near, take-two}
 use Rattle.order.proofs.Fitting.{fits-faces, fits-once, at-more}
 use Rattle.placing.specs.Stages.{Stage, third, place, stage}
-use Rattle.placing.proofs.Steps.{Step, place-placed, from-three, third-run, at-each-stage}
+use Rattle.placing.proofs.Steps.{Step, place-placed, from-three, third-begin, third-run, at-each-stage}
 use Rattle.drawing.specs.Meeting.{Places}
 use Rattle.drawing.proofs.Build.{Build}
 use Rattle.drawing.proofs.Build.Build.{post as put}
@@ -27,7 +27,7 @@ use Rattle.shift.proofs.Shift.{HeldAll}
 use Rattle.shift.proofs.Drawn.{placesOf}
 use Rattle.shift.proofs.Tri.{Over}
 use Rattle.shift.proofs.Tied.{Tied, tied-third, third-over, tied-next, over-old, over-new}
-use Rattle.shift.proofs.Every.{three-differ, placed-at, run-at, exact-at}
+use Rattle.shift.proofs.Every.{three-differ, placed-at, one-step-at, run-at, exact-at}
 use Rattle.shift.proofs.Corners.{top-ends}
 
 -- ---- what is held of a post and the run w that it was placed over
@@ -96,9 +96,12 @@ module _ (G : List (List ℕ)) (F : Faces G) where
 abbrev pub runAt : List (List ℕ) → List ℕ → ℕ → List ℕ
 runAt G vs j = run G (earlier vs j) (post vs j)
 
--- v's run has two posts or more, and both its ends are placed
+-- v's run has two posts or more, both its ends are placed, it has all placed neighbours, and it begins in v's list
 abbrev TwoEnds : List (List ℕ) → List ℕ → ℕ → Type 0
-TwoEnds G placed v = let w = run G placed v in (2 ≤ length w) × In (post w 1) placed × In (lastOf 0 w) placed
+TwoEnds G placed v =
+    let w = run G placed v in
+    (2 ≤ length w) × In (post w 1) placed × In (lastOf 0 w) placed × ((a : ℕ) → In a (ring G v) → In a placed → In a w)
+    × (runBegin G placed v < length (ring G v))
 
 first-of : (l : List ℕ) → 2 ≤ length l → In (post l 1) l
 first-of [] h = absurd (omega arith)
@@ -119,12 +122,23 @@ module _ (G : List (List ℕ)) (vn : ℕ) (vs : List ℕ) (P : Plane G (post vs 
       of-third : TwoEnds G (earlier vs 3) (post vs 3)
       of-third =
           rw (third-run G vn vs P A (omega arith))
-          (omega arith, take-in 2 vs 0 (omega arith) (omega arith), take-in 2 vs 1 (omega arith) (omega arith))
+          (
+            omega arith,
+            take-in 2 vs 0 (omega arith) (omega arith),
+            take-in 2 vs 1 (omega arith) (omega arith),
+            λ a n p. subst (In a) (take-two vs (omega arith)) p,
+            third-begin G vn vs P A (omega arith),
+          )
 
       of-next : (k : ℕ) → 3 ≤ k → k < length vs → TwoEnds G (earlier vs (k + 1)) (post vs (k + 1))
       of-next k h i =
           let e = exact-at G vn vs P A k h i (run G (take k vs) (post vs (k + 1))) refl in
-          subst (λ (l : List ℕ). TwoEnds G l (post vs (k + 1))) (first-k k) (e .0, e .1, e .2)
+          let S = one-step-at G vn vs P A k h i .step in
+          let all : (a : ℕ) → In a (ring G (post vs (k + 1))) → In a (take k vs) → In a (run G (take k vs) (post vs (k + 1))) =
+          λ a n p. rw (run-at G vn vs P A k h i) (S .run-all a n (rw (placed-at G vn vs P A k h (omega arith)) p)) in
+          let begin : runBegin G (take k vs) (post vs (k + 1)) < length (ring G (post vs (k + 1))) =
+          subst (λ (l : List ℕ). runBegin G l (post vs (k + 1)) < length (ring G (post vs (k + 1)))) (placed-at G vn vs P A k h (omega arith)) (S .begin-in) in
+          subst (λ (l : List ℕ). TwoEnds G l (post vs (k + 1))) (first-k k) (e .0, e .1, e .2, all, begin)
 
   module _ (j : ℕ) (h : 3 ≤ j) (i : j ≤ length vs) where
     pub run-two : 2 ≤ length (runAt G vs j)
@@ -142,6 +156,13 @@ module _ (G : List (List ℕ)) (vn : ℕ) (vs : List ℕ) (P : Plane G (post vs 
 
     pub right-earlier : In (lastOf 0 (runAt G vs j)) (earlier vs j)
     right-earlier = two-ends j h i .2
+
+    -- all neighbours that are earlier are in the run
+    pub all-in-run : (a : ℕ) → In a (ring G (post vs j)) → In a (earlier vs j) → In a (runAt G vs j)
+    all-in-run = two-ends j h i .3
+
+    pub begin-inside : runBegin G (earlier vs j) (post vs j) < length (ring G (post vs j))
+    begin-inside = two-ends j h i .4
 
   -- the run of vn goes from v1 to v2
   pub last-run : (k : ℕ) → 3 ≤ k → k ≤ length vs → post vs k ≡ vn → (post (runAt G vs k) 1 ≡ post vs 1) × (lastOf 0 (runAt G vs k) ≡ post vs 2)

@@ -24,10 +24,10 @@ by-reply (refused number place) f g = g (number, place, refl)
 
 -- ---- 1
 
-buffer-kept : (r : Reply ℕ) (s : List ℕ) (k : ℕ) (b : List ℕ) → Refused r → bufferFor r s k b ≡ b
+buffer-kept : (r : Reply ℕ) (w b : List ℕ) → Refused r → bufferFor r w b ≡ b
 unfolding bufferFor
-buffer-kept (accepted a) s k b h = not-both (sym (h .2))
-buffer-kept (refused number place) s k b h = refl
+buffer-kept (accepted a) w b h = not-both (sym (h .2))
+buffer-kept (refused number place) w b h = refl
 
 pub first-demand : Demand1 thePaper
 unfolding checkReply sheetReply postReply bufferAfter
@@ -35,8 +35,8 @@ first-demand =
     record {
       check = λ s. given-fixed s posts (checkRows s);
       sheet = λ s k b. given-fixed s (λ z. 2 * k) (sheetRows s k (length b));
-      post = λ s k u. given-fixed s (λ z. recordOf (stageAt k z) u) (postRows s k u);
-      unchanged = λ s k b. buffer-kept (sheetReply s k b) s k b;
+      post = λ s k u. given-fixed s (λ z. recordOf (lists z) (stageAt k z) u) (postRows s k u);
+      unchanged = λ s k b. buffer-kept (sheetReply s k b) (entriesOf (stageAt k s)) b;
     }
 
 -- ---- 2
@@ -55,11 +55,10 @@ module _ (s : List ℕ) where
       (subst (λ (m : ℕ). Plane (lists s) (post (order s) 1) (post (order s) 2) (post (order s) m) × Canonical (lists s) (order s)) (sym (lists-count s)) S))
       F)
 
-stands : (r : Reply ℕ) (s : List ℕ) (k : ℕ) (b : List ℕ) → Accepted r → ((a : ℕ) → r ≡ accepted a → a ≡ 2 * k)
-    → bufferFor r s k b ≡ entriesOf (stageAt k s) ++ drop (2 * k) b
+pub writes : (r : Reply ℕ) (k : ℕ) (w b : List ℕ) → Accepted r → ((a : ℕ) → r ≡ accepted a → a ≡ 2 * k) → bufferFor r w b ≡ w ++ drop (2 * k) b
 unfolding bufferFor
-stands (accepted a) s k b h f = ap (λ (m : ℕ). entriesOf (stageAt k s) ++ drop m b) (f a refl)
-stands (refused number place) s k b h f = not-both (h .1)
+writes (accepted a) k w b h f = ap (λ (m : ℕ). w ++ drop m b) (f a refl)
+writes (refused number place) k w b h f = not-both (h .1)
 
 pub second-demand : Demand2 thePaper
 unfolding sheetReply postReply bufferAfter
@@ -67,8 +66,8 @@ second-demand =
     record {
       exactly = λ s F. (λ a. accepted-sound s (a .0) (a .1), λ S. (posts s, sound-accepted s F S));
       others = λ s h. by-reply (checkReply s) (λ a. absurd (h (accepted-framed s (a .0) (a .1), accepted-sound s (a .0) (a .1)))) (λ r. r);
-      stands = λ s k b h. stands (sheetReply s k b) s k b h (λ a e. accepted-is s (λ z. 2 * k) (sheetRows s k (length b)) a e);
-      recorded = λ s k u h. h .1 ∙ ap accepted (accepted-is s (λ z. recordOf (stageAt k z) u) (postRows s k u) (h .0) (h .1));
+      stands = λ s k b h. writes (sheetReply s k b) k (entriesOf (stageAt k s)) b h (λ a e. accepted-is s (λ z. 2 * k) (sheetRows s k (length b)) a e);
+      recorded = λ s k u h. h .1 ∙ ap accepted (accepted-is s (λ z. recordOf (lists z) (stageAt k z) u) (postRows s k u) (h .0) (h .1));
     }
 
 -- ---- 3
@@ -89,7 +88,7 @@ module _ (U W : Services) (D : Demand1 U) (E : Demand1 W) where
   one-sheet s k b = fixed-one (sheetRows s k (length b)) s (2 * k) (U .sheet s k b) (W .sheet s k b) (D .sheet s k b) (E .sheet s k b)
 
   pub one-post : (s : List ℕ) (k u : ℕ) → U .post s k u ≡ W .post s k u
-  one-post s k u = fixed-one (postRows s k u) s (recordOf (stageAt k s) u) (U .post s k u) (W .post s k u) (D .post s k u) (E .post s k u)
+  one-post s k u = fixed-one (postRows s k u) s (recordOf (lists s) (stageAt k s) u) (U .post s k u) (W .post s k u) (D .post s k u) (E .post s k u)
 
   pub one-buffer : Demand2 U → Demand2 W → (s : List ℕ) (k : ℕ) (b : List ℕ) → U .buffer s k b ≡ W .buffer s k b
   one-buffer P Q s k b =

@@ -6,4 +6,5 @@ pub mod Written
 pub mod Mirror
 pub mod Exact
 pub mod Size
+pub mod Between
 pub mod OneReply

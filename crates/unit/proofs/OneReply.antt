@@ -17,5 +17,6 @@ one-reply =
     record {
       check = λ s r q e f. one-told r q (e ∙ sym f);
       sheet = λ s k b r q after other e f. (one-told r q (e .0 ∙ sym (f .0)), cc (e .1, f .1));
+      ends = λ s k b r q after other e f. (one-told r q (e .0 ∙ sym (f .0)), cc (e .1, f .1));
       post = λ s k u r q e f. one-posted r q (e ∙ sym f);
     }

@@ -3,7 +3,7 @@
 use Prim.Native.Nat.{ℕ, _*_, _≤_, _<_}
 use mathlib.Core.Path.{_≡_}
 use mathlib.Core.List.{List, _++_}
-use lib.ListN.{length, drop}
+use lib.ListN.{drop}
 use Rattle.placing.specs.Stages.{stage}
 use Rattle.placing.specs.Records.{recordOf, entriesOf, endsOf}
 use Rattle.placing.specs.declared.Record.{Record}
@@ -30,11 +30,11 @@ Within Ask.Sheet k n room = 2 * k ≤ room
 Within Ask.Ends k n room = 2 * k ≤ room
 Within (Ask.Post u) k n room = u < n
 
--- what is told of a stage of the list vs on the rings G: the buffer b becomes its sheet, or the ends of its runs, or the record is a post's
-abbrev pub Tells : Ask → List (List ℕ) → List ℕ → List ℕ → Record → List ℕ → Type 0
-Tells Ask.Sheet G vs b r after = after ≡ entriesOf (stage G vs) ++ drop (2 * length vs) b
-Tells Ask.Ends G vs b r after = after ≡ endsOf G vs ++ drop (2 * length vs) b
-Tells (Ask.Post u) G vs b r after = r ≡ recordOf G (stage G vs) u
+-- what is told of stage k, with the rings G and the posts placed: the buffer b becomes its sheet, or the ends of its runs, or the record is a post's
+abbrev pub Tells : Ask → ℕ → List (List ℕ) → List ℕ → List ℕ → Record → List ℕ → Type 0
+Tells Ask.Sheet k G placed b r after = after ≡ entriesOf (stage G placed) ++ drop (2 * k) b
+Tells Ask.Ends k G placed b r after = after ≡ endsOf G placed ++ drop (2 * k) b
+Tells (Ask.Post u) k G placed b r after = r ≡ recordOf G (stage G placed) u
 
 -- the reply with a record: the refusal, or the record
 abbrev pub recordReply : Answer → Record → Reply Record

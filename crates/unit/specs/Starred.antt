@@ -62,10 +62,10 @@ starred =
     ∷ sheet (D orderD 285) 5 (9 ∷ 9 ∷ 9 ∷ 9 ∷ 9 ∷ 9 ∷ 9 ∷ 9 ∷ 9 ∷ []) (refused 16 0) (9 ∷ 9 ∷ 9 ∷ 9 ∷ 9 ∷ 9 ∷ 9 ∷ 9 ∷ 9 ∷ [])
     ∷ sheet (D orderD 285) 5 (9 ∷ 9 ∷ 9 ∷ 9 ∷ 9 ∷ 9 ∷ 9 ∷ 9 ∷ 9 ∷ 9 ∷ []) (accepted 10) (0 ∷ 0 ∷ 6 ∷ 0 ∷ 3 ∷ 1 ∷ 3 ∷ 2 ∷ 3 ∷ 3 ∷ [])
     -- 7: D, post 2 at stages 3 and 4
-    ∷ post (D orderD 285) 3 2 (accepted (record { x = 1; y = 1; standing = OnContour 0 1 }))
-    ∷ post (D orderD 285) 4 2 (accepted (record { x = 2; y = 1; standing = Covered 3 }))
+    ∷ post (D orderD 285) 3 2 (accepted (record { x = 1; y = 1; standing = OnContour 0 1; leftmost = 0; rightmost = 1 }))
+    ∷ post (D orderD 285) 4 2 (accepted (record { x = 2; y = 1; standing = Covered 3; leftmost = 0; rightmost = 1 }))
     -- 8: D, post 4 at stage 4; name 5
-    ∷ post (D orderD 285) 4 4 (accepted (record { x = 0; y = 0; standing = Waiting }))
+    ∷ post (D orderD 285) 4 4 (accepted (record { x = 0; y = 0; standing = Waiting; leftmost = 4; rightmost = 4 }))
     ∷ post (D orderD 285) 4 5 (refused 17 0)
     -- 9: T with sum 237; T one byte short
     ∷ check (T 237) (refused 6 0)

@@ -1,16 +1,17 @@
-// The unit: its three services. specs/ has their replies and the three demands; the refusals and the table are lamp's.
+// The unit: its three services, and the ends of runs for those who print them. specs/ has their replies and the three demands; the refusals and
+// the table are lamp's.
 ghost use mathlib.Core.Path.{_≡_};
 ghost use Prim.Native.Nat.{_+_, _≤_};
 ghost use lib.ListN.{length, take};
 ghost use Rattle.block.specs.Layout.{limit, entries};
 ghost use Rattle.block.specs.Block.{posts, Headed};
 ghost use Rattle.rings.specs.Held.{held};
-ghost use Rattle.placing.specs.Stages.{stage};
 ghost use Rattle.order.specs.Fitted.{Reachable};
+ghost use Rattle.order.specs.Ranked.{RankedBelow};
 ghost use Rattle.lamp.specs.Lamp.{roomRows, nameRows};
 ghost use Rattle.lamp.specs.Given.{accepted, replyOf, given, checkReply};
-ghost use Rattle.lamp.specs.Loaded.{Wide, Checked};
-ghost use Rattle.unit.specs.Promises.{CheckPromise, SheetPromise, PostPromise};
+ghost use Rattle.lamp.specs.Loaded.{Wide, WideOrder, Checked};
+ghost use Rattle.unit.specs.Promises.{CheckPromise, SheetPromise, EndsPromise, PostPromise};
 ghost use Rattle.unit.specs.Asked.{furtherRows, Within, Tells, Serves};
 use block::Block;
 use lamp::Answer;
@@ -41,12 +42,17 @@ pub fn check(s: &[u8]) -> Answer
     let mut at = no_places();
     let mut ents = no_entries();
     let mut rank = block::no_names();
-    lamp::check_into(s, &mut vs, &mut ds, &mut at, &mut ents, &mut rank)
+    let mut begin = block::no_names();
+    let mut long = block::no_names();
+    lamp::check_into(
+        s, &mut vs, &mut ds, &mut at, &mut ents, &mut rank, &mut begin, &mut long,
+    )
 }
 
-// What is asked of a stage: its sheet, or the record of a post.
+// What is asked of a stage: its sheet, the ends of its posts' runs, or the record of a post.
 enum Ask {
     Sheet,
+    Ends,
     Post(usize),
 }
 
@@ -62,6 +68,8 @@ fn no_record() -> Record {
         x: 0,
         y: 0,
         standing: Standing::Waiting,
+        leftmost: 0,
+        rightmost: 0,
     }
 }
 
@@ -100,6 +108,7 @@ fn further(s: &[u8], n: usize, k: usize, ask: Ask, room: usize) -> Answer
     }
     match ask {
         Ask::Sheet => room_row(s, n, k, room),
+        Ask::Ends => room_row(s, n, k, room),
         Ask::Post(u) => name_row(s, n, u),
     }
 }
@@ -110,14 +119,15 @@ fn drawn(
     ents: &[u16],
     vs: &[u16],
     rank: &[u16],
+    begin: &[u16],
+    long: &[u16],
     k: usize,
     ask: Ask,
     buffer: &mut [u16],
 ) -> Record
-    requires { ⌜ Reachable (now at) (now ents) (now vs) (now rank) k
+    requires { ⌜ Reachable (now at) (now ents) (now vs) (now begin) (now long) k × RankedBelow (length (held (now at) (now ents))) (now vs) (now rank)
         × Within ask k (length (held (now at) (now ents))) (length (now buffer)) ⌝ }
-    ensures { λ r. ⌜ Tells ask k (stage (held (now (at .entry)) (now (ents .entry))) (take k (now (vs .entry))))
-        (now (buffer .entry)) r (now (buffer .exit)) ⌝ }
+    ensures { λ r. ⌜ Tells ask k (held (now (at .entry)) (now (ents .entry))) (take k (now (vs .entry))) (now (buffer .entry)) r (now (buffer .exit)) ⌝ }
 {
     let mut ys = block::no_names();
     let mut off = block::no_names();
@@ -131,7 +141,8 @@ fn drawn(
                 at,
                 ents,
                 vs,
-                rank,
+                begin,
+                long,
                 k,
                 &mut ys,
                 &mut off,
@@ -143,11 +154,17 @@ fn drawn(
             );
             no_record()
         }
+        Ask::Ends => {
+            engine::ends_at(at, ents, vs, begin, long, k, buffer);
+            no_record()
+        }
         Ask::Post(u) => engine::post_at(
             at,
             ents,
             vs,
             rank,
+            begin,
+            long,
             k,
             u as u16,
             &mut ys,
@@ -168,11 +185,14 @@ fn answered(
     at: &[u16],
     ents: &[u16],
     rank: &[u16],
+    begin: &[u16],
+    long: &[u16],
     k: usize,
     ask: Ask,
     buffer: &mut [u16],
 ) -> Served
-    requires { ⌜ (checkReply (now s) ≡ accepted n) × Checked (now s) n (now vs) (now at) (now ents) (now rank) × Wide (now vs) (now at) (now ents) ⌝ }
+    requires { ⌜ (checkReply (now s) ≡ accepted n) × Checked (now s) n (now vs) (now at) (now ents) (now rank) (now begin) (now long)
+        × Wide (now vs) (now at) (now ents) × WideOrder (now rank) (now begin) (now long) ⌝ }
     ensures { λ r. ⌜ Serves ask k (now (s .entry)) (now (buffer .entry)) r (now (buffer .exit)) ⌝ }
 {
     let answer = further(s, n, k, ask, buffer.len());
@@ -185,14 +205,24 @@ fn answered(
     let b = Block { n };
     let e = b.entries();
     let p = n + 1;
-    let found = drawn(&at[..p], &ents[..e], &vs[..n], rank, k, ask, buffer);
+    let found = drawn(
+        &at[..p],
+        &ents[..e],
+        &vs[..n],
+        rank,
+        begin,
+        long,
+        k,
+        ask,
+        buffer,
+    );
     Served {
         answer: Answer::Accepted((2 * k) as u16),
         found,
     }
 }
 
-// What sheet and post do: check, the rows that follow, and the drawing.
+// What sheet, ends and post do: check, the rows that follow, and the drawing.
 fn serve(s: &[u8], k: usize, ask: Ask, buffer: &mut [u16]) -> Served
     ensures { λ r. ⌜ Serves ask k (now (s .entry)) (now (buffer .entry)) r (now (buffer .exit)) ⌝ }
 {
@@ -201,7 +231,11 @@ fn serve(s: &[u8], k: usize, ask: Ask, buffer: &mut [u16]) -> Served
     let mut at = no_places();
     let mut ents = no_entries();
     let mut rank = block::no_names();
-    let answer = lamp::check_into(s, &mut vs, &mut ds, &mut at, &mut ents, &mut rank);
+    let mut begin = block::no_names();
+    let mut long = block::no_names();
+    let answer = lamp::check_into(
+        s, &mut vs, &mut ds, &mut at, &mut ents, &mut rank, &mut begin, &mut long,
+    );
     let Answer::Accepted(posts) = answer else {
         return Served {
             answer,
@@ -215,6 +249,8 @@ fn serve(s: &[u8], k: usize, ask: Ask, buffer: &mut [u16]) -> Served
         &at,
         &ents,
         &rank,
+        &begin,
+        &long,
         k,
         ask,
         buffer,
@@ -227,6 +263,14 @@ pub fn sheet(s: &[u8], k: usize, buffer: &mut [u16]) -> Answer
     ensures { λ r. ⌜ SheetPromise (now (s .entry)) k (now (buffer .entry)) r (now (buffer .exit)) ⌝ }
 {
     let served = serve(s, k, Ask::Sheet, buffer);
+    served.answer
+}
+
+// ends: replies as sheet does, and writes the two ends of the run of each post placed, where sheet writes its x and y.
+pub fn ends(s: &[u8], k: usize, buffer: &mut [u16]) -> Answer
+    ensures { λ r. ⌜ EndsPromise (now (s .entry)) k (now (buffer .entry)) r (now (buffer .exit)) ⌝ }
+{
+    let served = serve(s, k, Ask::Ends, buffer);
     served.answer
 }
 

@@ -152,10 +152,6 @@ last-at x [] h = absurd (omega arith)
 last-at x (y ∷ []) h = refl
 last-at x (y ∷ z ∷ l) h = let e : length (y ∷ z ∷ l) - 1 ≡ suc (length (z ∷ l) - 1) = omega arith in rw e (last-at y (z ∷ l) (omega arith))
 
-pub last-any : (x y : ℕ) (l : List ℕ) → 0 < length l → lastOf x l ≡ lastOf y l
-last-any x y [] h = absurd (omega arith)
-last-any x y (z ∷ l) h = refl
-
 -- somebody stands before the last
 pub before-last : (p : ℕ) (M : List ℕ) (q : ℕ) → (m : ℕ) × Adj (p ∷ (M ++ q ∷ [])) m q
 before-last p [] q = (p, inl (refl, refl))

@@ -5,11 +5,11 @@ use native.Mathlib.Omega.{arith}
 use Prim.Native.Nat.{_<_}
 use mathlib.Core.Path.{sym, _∙_}
 use lib.ListN.{length}
-use Rattle.block.specs.Layout.{limit}
 use lib.Seq.{length-take-le}
+use Rattle.block.specs.Layout.{limit}
 use Rattle.unit.specs.Asked.{furtherRows}
 use Rattle.lamp.proofs.Tried.{none-applied}
-use Rattle.unit.proofs.Calls.{asked-stage, within, row-refuses, serves, length-is, many-is, to-engine, stage-is}
+use Rattle.unit.proofs.Calls.{asked-stage, within, row-refuses, serves, many-is, reachable, positions, lists-are}
 
 further-requires : tie.Need-further-requires
 further-requires c κs = search needs
@@ -27,7 +27,7 @@ returns : tie.Need-returns
 returns c =
     let past = c .before in
     let asking = past .before .before in
-    let entry = asking .before .before .before .before .before .before .before in
+    let entry = asking .before .before .before .before .before .before .before .before .before in
     let s = entry .args .s .now in
     let b = entry .args .buffer .now in
     row-refuses s (entry .args .k) b (entry .args .ask) _ _ (past .enum-told2 .given .1) _ _ (entry .pre .0) (asking .further .ensures)
@@ -39,64 +39,66 @@ add-p : tie.Need-add-p
 add-p c = search needs
 
 slice-aggregate-drawn : tie.Need-slice-aggregate-drawn
-slice-aggregate-drawn c = sym (length-take-le _ _ (omega arith))
+slice-aggregate-drawn c =
+    sym (length-take-le _ _ (omega arith))
 
 slice-aggregate-drawn-2 : tie.Need-slice-aggregate-drawn-2
-slice-aggregate-drawn-2 c = sym (length-take-le _ _ (omega arith))
+slice-aggregate-drawn-2 c =
+    sym (length-take-le _ _ (omega arith))
 
 slice-aggregate-drawn-3 : tie.Need-slice-aggregate-drawn-3
-slice-aggregate-drawn-3 c = sym (length-take-le _ _ (omega arith))
+slice-aggregate-drawn-3 c =
+    sym (length-take-le _ _ (omega arith))
 
 drawn-requires : tie.Need-drawn-requires
 drawn-requires c κs =
     let past = c .before .before .before .before .before in
     let asking = past .before .before in
-    let entry = asking .before .before .before .before .before .before .before in
+    let entry = asking .before .before .before .before .before .before .before .before .before in
     let s = entry .args .s .now in
     let k = entry .args .k in
     let b = entry .args .buffer .now in
     let ask = entry .args .ask in
     let asked = asking .further in
     let none = none-applied s (furtherRows ask k (length b)) (asked .result) (asked .ensures) _ (past .enum-told .given .1) in
-    let in-range = asked-stage ask s k (length b) none in
     let R = entry .pre .1 in
+    let W = entry .pre .3 in
     let room : limit < length (entry .args .at .now) = omega (arith, entry .pre .2 .places) in
     let counted = c .before .before .before .before .entries in
-    let is = length-is s _ (entry .pre .0) _ _ _ _ R room _ (counted .ensures) in
-    let E = to-engine s _ (entry .pre .0) _ _ _ _ R room _ (counted .ensures) in
-    let many = many-is s _ (entry .pre .0) _ _ _ _ R room _ (counted .ensures) in
-    let asked = within ask s k (length b) _ (many ∙ R .headed .is) none in
-    (record { fitted = E; least = in-range .0; most = omega (arith, in-range .1, is, R .headed .is) }, asked)
+    let range = asked-stage ask s k (length b) none in
+    let many = many-is s _ (entry .pre .0) _ _ _ _ _ _ R room W _ (counted .ensures) in (
+      reachable s _ (entry .pre .0) _ _ _ _ _ _ R room W _ (counted .ensures) k (range .0) (range .1),
+      positions s _ (entry .pre .0) _ _ _ _ _ _ R room W _ (counted .ensures),
+      within ask s k (length b) _ (many ∙ R .headed .is) none,
+    )
 
-mul-t15 : tie.Need-mul-t15
-mul-t15 c =
-    let done = c .before .before in
-    let past = done .before .before .before .before .before .before in
+mul-t17 : tie.Need-mul-t17
+mul-t17 c =
+    let past = c .before .before .before .before .before .before .before .before in
     let asking = past .before .before in
-    let entry = asking .before .before .before .before .before .before .before in
+    let entry = asking .before .before .before .before .before .before .before .before .before in
     let s = entry .args .s .now in
     let k = entry .args .k in
     let b = entry .args .buffer .now in
     let ask = entry .args .ask in
     let asked = asking .further in
     let none = none-applied s (furtherRows ask k (length b)) (asked .result) (asked .ensures) _ (past .enum-told .given .1) in
-    let in-range = asked-stage ask s k (length b) none in
-    omega (arith, in-range .1, entry .pre .1 .headed .is, entry .pre .1 .headed .most)
+    let range = asked-stage ask s k (length b) none in
+    omega (arith, range .1, entry .pre .1 .headed .is, entry .pre .1 .headed .most)
 
-cast-t25 : tie.Need-cast-t25
-cast-t25 c =
-    let done = c .before .before in
-    let past = done .before .before .before .before .before .before in
+cast-t27 : tie.Need-cast-t27
+cast-t27 c =
+    let past = c .before .before .before .before .before .before .before .before in
     let asking = past .before .before in
-    let entry = asking .before .before .before .before .before .before .before in
+    let entry = asking .before .before .before .before .before .before .before .before .before in
     let s = entry .args .s .now in
     let k = entry .args .k in
     let b = entry .args .buffer .now in
     let ask = entry .args .ask in
     let asked = asking .further in
     let none = none-applied s (furtherRows ask k (length b)) (asked .result) (asked .ensures) _ (past .enum-told .given .1) in
-    let in-range = asked-stage ask s k (length b) none in
-    omega (arith, in-range .1, entry .pre .1 .headed .is, entry .pre .1 .headed .most)
+    let range = asked-stage ask s k (length b) none in
+    omega (arith, range .1, entry .pre .1 .headed .is, entry .pre .1 .headed .most)
 
 same-length : tie.Need-same-length
 same-length c = search needs
@@ -106,19 +108,19 @@ returns-2 c =
     let done = c .before .before in
     let past = done .before .before .before .before .before .before in
     let asking = past .before .before in
-    let entry = asking .before .before .before .before .before .before .before in
+    let entry = asking .before .before .before .before .before .before .before .before .before in
     let s = entry .args .s .now in
     let k = entry .args .k in
     let b = entry .args .buffer .now in
     let ask = entry .args .ask in
     let asked = asking .further in
     let none = none-applied s (furtherRows ask k (length b)) (asked .result) (asked .ensures) _ (past .enum-told .given .1) in
-    let in-range = asked-stage ask s k (length b) none in
     let R = entry .pre .1 in
+    let W = entry .pre .3 in
     let room : limit < length (entry .args .at .now) = omega (arith, entry .pre .2 .places) in
     let counted = done .before .before .before .before .before .entries in
-    let stage = stage-is s _ (entry .pre .0) _ _ _ _ R room _ (counted .ensures) k in
-    serves s k b ask _ _ _ _ (entry .pre .0) none stage (done .drawn .ensures)
+    let are = lists-are s _ (entry .pre .0) _ _ _ _ _ _ R room W _ (counted .ensures) k in
+    serves s k b ask _ _ _ _ _ (entry .pre .0) none are (done .drawn .ensures)
 
 pub answered-spec : {M : Type 1} → statement M
 answered-spec =
@@ -135,7 +137,7 @@ answered-spec =
     slice-aggregate-drawn-2
     slice-aggregate-drawn-3
     drawn-requires
-    mul-t15
-    cast-t25
+    mul-t17
+    cast-t27
     same-length
     returns-2)

@@ -2,7 +2,7 @@ use borrow.Author.Needs.{needs}
 use Rattle.unit.proofs.drawn.Statement.{statement}
 use Rattle.unit.proofs.drawn.Tie as tie
 use native.Mathlib.Omega.{arith}
-use Rattle.unit.proofs.Calls.{within-sheet, tells-sheet, within-post, tells-post}
+use Rattle.unit.proofs.Calls.{within-sheet, tells-sheet, within-ends, tells-ends, within-post, tells-post}
 
 no-names-requires : tie.Need-no-names-requires
 no-names-requires c κs = search needs
@@ -46,19 +46,26 @@ slice-aggregate-sheet-at-6 c = search needs
 sheet-at-requires : tie.Need-sheet-at-requires
 sheet-at-requires c κs =
     let asked = c .before .before .before .before .before .before .before in
-    let made = asked .before .before .before .before .before .before .before in
-    let entry = made .before .before .before .before .before .before in
-    let fit = within-sheet (entry .args .ask) (entry .args .k) (asked .enum-told .given .1) _ _ (entry .pre .1) in
-    let least = entry .pre .0 .least in
-    let most = entry .pre .0 .most in (
-      record { fitted = entry .pre .0 .fitted; least = omega (arith, least); most = omega (arith, least, most) },
-      search needs,
-      search needs,
-      omega (arith, least, fit),
-    )
+    let entry = asked .before .before .before .before .before .before .before .before .before .before .before .before .before .before .before in
+    let stage = entry .pre .0 in
+    let fit = within-sheet (entry .args .ask) (entry .args .k) (asked .enum-told .given .1) _ _ (entry .pre .2) in
+    (stage, search needs, search needs, fit)
 
 no-record-requires : tie.Need-no-record-requires
 no-record-requires c κs = search needs
+
+enum-told-2 : tie.Need-enum-told-2
+enum-told-2 c = search needs
+
+ends-at-requires : tie.Need-ends-at-requires
+ends-at-requires c κs =
+    let asked = c .before in
+    let entry = asked .before .before .before .before .before .before .before .before .before .before .before .before .before .before .before in
+    let fit = within-ends (entry .args .ask) (entry .args .k) (asked .enum-told2 .given .1) _ _ (entry .pre .2) in
+    (entry .pre .0, fit)
+
+no-record-requires-2 : tie.Need-no-record-requires-2
+no-record-requires-2 c κs = search needs
 
 enum-known-ask : tie.Need-enum-known-ask
 enum-known-ask c = search needs
@@ -66,9 +73,8 @@ enum-known-ask c = search needs
 cast-post-at : tie.Need-cast-post-at
 cast-post-at c =
     let asked = c .before in
-    let made = asked .before .before .before .before .before .before .before in
-    let entry = made .before .before .before .before .before .before in
-    let fit = within-post (entry .args .ask) (entry .args .k) _ (asked .ask .given .1) _ _ (entry .pre .1) in
+    let entry = asked .before .before .before .before .before .before .before .before .before .before .before .before .before .before .before in
+    let fit = within-post (entry .args .ask) (entry .args .k) _ (asked .ask .given .1) _ _ (entry .pre .2) in
     omega (arith, fit, entry .pre .0 .fitted .most)
 
 slice-aggregate-post-at : tie.Need-slice-aggregate-post-at
@@ -92,32 +98,36 @@ slice-aggregate-post-at-6 c = search needs
 post-at-requires : tie.Need-post-at-requires
 post-at-requires c κs =
     let asked = c .before .before .before .before .before .before .before in
-    let made = asked .before .before .before .before .before .before .before in
-    let entry = made .before .before .before .before .before .before in
-    let fit = within-post (entry .args .ask) (entry .args .k) _ (asked .ask .given .1) _ _ (entry .pre .1) in
-    (entry .pre .0, search needs, search needs, fit)
+    let entry = asked .before .before .before .before .before .before .before .before .before .before .before .before .before .before .before in
+    let fit = within-post (entry .args .ask) (entry .args .k) _ (asked .ask .given .1) _ _ (entry .pre .2) in
+    (entry .pre .0, search needs, search needs, fit, entry .pre .1)
 
 same-length : tie.Need-same-length
 same-length c = search needs
 
 returns : tie.Need-returns
 returns c =
-    let back = c .before .before .before .before in
-    let done = back .before .before .before .before .before in
-    let lent = done .before in
-    let asked = lent .before .before .before .before .before .before .before in
-    let made = asked .before .before .before .before .before .before .before in
-    let entry = made .before .before .before .before .before .before in
-    tells-sheet (entry .args .ask) _ (asked .enum-told .given .1) _ _ _ _ (done .sheet-at .ensures)
+    let done = c .before .before .before .before .before .before .before .before .before in
+    let asked = done .before .before .before .before .before .before .before .before in
+    let entry = asked .before .before .before .before .before .before .before .before .before .before .before .before .before .before .before in
+    tells-sheet (entry .args .ask) _ (asked .enum-told .given .1) _ _ _ _ _ (done .sheet-at .ensures)
+
+same-length-2 : tie.Need-same-length-2
+same-length-2 c = search needs
 
 returns-2 : tie.Need-returns-2
 returns-2 c =
+    let done = c .before .before .before in
+    let asked = done .before .before in
+    let entry = asked .before .before .before .before .before .before .before .before .before .before .before .before .before .before .before in
+    tells-ends (entry .args .ask) _ (asked .enum-told2 .given .1) _ _ _ _ _ (done .ends-at .ensures)
+
+returns-3 : tie.Need-returns-3
+returns-3 c =
     let done = c .before .before .before .before .before .before in
-    let lent = done .before in
-    let asked = lent .before .before .before .before .before .before .before in
-    let made = asked .before .before .before .before .before .before .before in
-    let entry = made .before .before .before .before .before .before in
-    tells-post (entry .args .ask) _ _ (asked .ask .given .1) _ _ _ _ (done .post-at .ensures)
+    let asked = done .before .before .before .before .before .before .before .before in
+    let entry = asked .before .before .before .before .before .before .before .before .before .before .before .before .before .before .before in
+    tells-post (entry .args .ask) _ _ (asked .ask .given .1) _ _ _ _ _ (done .post-at .ensures)
 
 pub drawn-spec : {M : Type 1} → statement M
 drawn-spec =
@@ -138,6 +148,9 @@ drawn-spec =
     slice-aggregate-sheet-at-6
     sheet-at-requires
     no-record-requires
+    enum-told-2
+    ends-at-requires
+    no-record-requires-2
     enum-known-ask
     cast-post-at
     slice-aggregate-post-at
@@ -149,4 +162,6 @@ drawn-spec =
     post-at-requires
     same-length
     returns
-    returns-2)
+    same-length-2
+    returns-2
+    returns-3)

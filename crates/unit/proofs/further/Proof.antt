@@ -27,6 +27,12 @@ enum-told c = search needs
 room-row-requires : tie.Need-room-row-requires
 room-row-requires c κs = search needs
 
+enum-told-2 : tie.Need-enum-told-2
+enum-told-2 c = search needs
+
+room-row-requires-2 : tie.Need-room-row-requires-2
+room-row-requires-2 c κs = search needs
+
 enum-known-ask : tie.Need-enum-known-ask
 enum-known-ask c = search needs
 
@@ -41,10 +47,22 @@ returns-3 c =
     let k = entry .args .k in
     let room = entry .args .room in
     let past = stage-past s k (roomRows k room) (omega arith) (omega (arith, entry .pre .is)) in
-    subst⁻¹ (λ (a : Ask). replyOf (c .room-row .result) ≡ given (furtherRows a k room) s posts) (asked .enum-told .given .1) (c .room-row .ensures ∙ past)
+    subst⁻¹ (λ (a : Ask). replyOf (c .room-row .result) ≡ given (furtherRows a k room) s posts) (asked .enum-told .given .1)
+    (c .room-row .ensures ∙ past)
 
 returns-4 : tie.Need-returns-4
 returns-4 c =
+    let asked = c .before in
+    let entry = asked .before .before .before .before .before in
+    let s = entry .args .s .now in
+    let k = entry .args .k in
+    let room = entry .args .room in
+    let past = stage-past s k (roomRows k room) (omega arith) (omega (arith, entry .pre .is)) in
+    subst⁻¹ (λ (a : Ask). replyOf (c .room-row2 .result) ≡ given (furtherRows a k room) s posts) (asked .enum-told2 .given .1)
+    (c .room-row2 .ensures ∙ past)
+
+returns-5 : tie.Need-returns-5
+returns-5 c =
     let asked = c .before .before in
     let entry = asked .before .before .before .before .before in
     let s = entry .args .s .now in
@@ -61,7 +79,10 @@ further-spec =
     returns-2
     enum-told
     room-row-requires
+    enum-told-2
+    room-row-requires-2
     enum-known-ask
     name-row-requires
     returns-3
-    returns-4)
+    returns-4
+    returns-5)

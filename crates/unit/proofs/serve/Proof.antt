@@ -1,6 +1,7 @@
 use borrow.Author.Needs.{needs}
 use Rattle.unit.proofs.serve.Statement.{statement}
 use Rattle.unit.proofs.serve.Tie as tie
+use native.Mathlib.Omega.{arith}
 use mathlib.Core.Path.{sym, ap, _∙_}
 use Rattle.lamp.specs.Given.{accepted, replyOf}
 use Rattle.unit.proofs.Calls.{check-refuses, checked-as}
@@ -20,6 +21,12 @@ no-entries-requires c κs = search needs
 no-names-requires-3 : tie.Need-no-names-requires-3
 no-names-requires-3 c κs = search needs
 
+no-names-requires-4 : tie.Need-no-names-requires-4
+no-names-requires-4 c κs = search needs
+
+no-names-requires-5 : tie.Need-no-names-requires-5
+no-names-requires-5 c κs = search needs
+
 slice-aggregate-check-into : tie.Need-slice-aggregate-check-into
 slice-aggregate-check-into c = search needs
 
@@ -34,6 +41,12 @@ slice-aggregate-check-into-4 c = search needs
 
 slice-aggregate-check-into-5 : tie.Need-slice-aggregate-check-into-5
 slice-aggregate-check-into-5 c = search needs
+
+slice-aggregate-check-into-6 : tie.Need-slice-aggregate-check-into-6
+slice-aggregate-check-into-6 c = search needs
+
+slice-aggregate-check-into-7 : tie.Need-slice-aggregate-check-into-7
+slice-aggregate-check-into-7 c = search needs
 
 check-into-requires : tie.Need-check-into-requires
 check-into-requires c κs = search needs
@@ -50,10 +63,9 @@ no-record-requires c κs = search needs
 returns : tie.Need-returns
 returns c =
     let past = c .before in
-    let checking = past .before .before .before .before .before .before .before in
+    let checking = past .before .before .before .before .before .before .before .before .before in
     let asked = checking .check-into in
-    let made = checking .before .before .before .before .before .before in
-    let entry = made .before .before .before .before .before .before .before in
+    let entry = checking .before .before .before .before .before .before .before .before .before .before .before .before .before .before .before .before .before in
     check-refuses (entry .args .s .now) (entry .args .k) (entry .args .buffer .now) (entry .args .ask) _ _ (past .enum-told .given .1) _ (asked .ensures .0)
 
 number-requires : tie.Need-number-requires
@@ -71,18 +83,42 @@ slice-aggregate-answered-3 c = search needs
 slice-aggregate-answered-4 : tie.Need-slice-aggregate-answered-4
 slice-aggregate-answered-4 c = search needs
 
+slice-aggregate-answered-5 : tie.Need-slice-aggregate-answered-5
+slice-aggregate-answered-5 c = search needs
+
+slice-aggregate-answered-6 : tie.Need-slice-aggregate-answered-6
+slice-aggregate-answered-6 c = search needs
+
 answered-requires : tie.Need-answered-requires
 answered-requires c κs =
-    let counting = c .before .before .before .before .before in
+    let counting = c .before .before .before .before .before .before .before in
     let known = counting .before .before in
-    let checking = known .before .before .before .before .before .before .before in
-    let made = checking .before .before .before .before .before .before in
-    let entry = made .before .before .before .before .before .before .before in
+    let checking = known .before .before .before .before .before .before .before .before .before in
+    let entry = checking .before .before .before .before .before .before .before .before .before .before .before .before .before .before .before .before .before in
+    let lengths = checking .before .before .before .before .before .before .before .before in
+    let begins = lengths .before in
+    let ranks = begins .before in
+    let entries = ranks .before in
+    let places = entries .before in
+    let made = places .before .before in
     let asked = checking .check-into in
+    let kept = asked .kept in
     let told = ap replyOf (known .answer .given .1) in
     let is = counting .number .ensures .0 in
-    let R = checked-as (entry .args .s .now) _ _ is _ _ _ _ (asked .ensures .1 _ told) in
-    (sym (asked .ensures .0) ∙ told ∙ ap accepted (sym is), R, record { names = search needs; places = search needs; all = search needs })
+    let R = checked-as (entry .args .s .now) _ _ is _ _ _ _ _ _ (asked .ensures .1 _ told) in (
+      sym (asked .ensures .0) ∙ told ∙ ap accepted (sym is),
+      R,
+      record {
+        names = omega (arith, kept, made .no-names .ensures);
+        places = omega (arith, kept, places .no-places .ensures);
+        all = omega (arith, kept, entries .no-entries .ensures);
+      },
+      record {
+        names = omega (arith, kept, ranks .no-names3 .ensures);
+        begins = omega (arith, kept, begins .no-names4 .ensures);
+        lengths = omega (arith, kept, lengths .no-names5 .ensures);
+      },
+    )
 
 same-length : tie.Need-same-length
 same-length c = search needs
@@ -99,11 +135,15 @@ serve-spec =
     no-places-requires
     no-entries-requires
     no-names-requires-3
+    no-names-requires-4
+    no-names-requires-5
     slice-aggregate-check-into
     slice-aggregate-check-into-2
     slice-aggregate-check-into-3
     slice-aggregate-check-into-4
     slice-aggregate-check-into-5
+    slice-aggregate-check-into-6
+    slice-aggregate-check-into-7
     check-into-requires
     enum-known-answer
     enum-told
@@ -114,6 +154,8 @@ serve-spec =
     slice-aggregate-answered-2
     slice-aggregate-answered-3
     slice-aggregate-answered-4
+    slice-aggregate-answered-5
+    slice-aggregate-answered-6
     answered-requires
     same-length
     returns-2)
