@@ -9,17 +9,17 @@ use Rattle.rings.specs.Rings.{around, next, allNext, follows, entryRule, ringRu
 use Rattle.rings.specs.Faults.{isHigh, isItself, isRepeated, isUnreturned, isBad, firstBad}
 use Rattle.order.specs.Order.{twoPlaced, from, lead, rest, leads, oneRun, begins, run}
 use Rattle.placing.specs.Stages.{third, upTo, onFrom, placeOver, place, placeAll, stage}
-use Rattle.placing.specs.Records.{leftOf, rightOf, standing, recordOf, entriesOf}
+use Rattle.placing.specs.Records.{leftOf, rightOf, standing, runOf, fitLeft, fitRight, recordOf, entriesOf, endsOf}
 use Rattle.lamp.specs.Lamp.{blockRows, positionRows, checkRows, sheetRows, postRows}
 use Rattle.lamp.specs.Given.{given, checkReply}
-use Rattle.unit.specs.Replies.{stageAt, sheetReply, bufferFor, bufferAfter, postReply}
-use Rattle.unit.specs.Starred.{bytes, blockOf, T, D, DList, starred, AllGive}
+use Rattle.unit.specs.Replies.{stageAt, sheetReply, bufferFor, bufferAfter, endsAfter, postReply}
+use Rattle.unit.specs.Starred.{bytes, blockOf, T, D, DList, L, starred, AllGive}
 
 pub starred-given : AllGive starred
 unfolding flatMap flatten wordsAt sumOf numbers first some mem allOf anyOf count order degrees listsFrom lists marked badEntry badDegree around next
     allNext follows entryRule ringRule triangleRule outerRule twoPlaced from lead rest leads oneRun begins run third upTo onFrom placeOver place
-    placeAll stage leftOf rightOf standing recordOf entriesOf blockRows positionRows checkRows sheetRows postRows given stageAt checkReply sheetReply
-    bufferFor bufferAfter postReply bytes blockOf T D DList starred isHigh isItself isRepeated isUnreturned isBad firstBad
+    placeAll stage leftOf rightOf standing runOf fitLeft fitRight recordOf entriesOf endsOf blockRows positionRows checkRows sheetRows
+    postRows given stageAt checkReply sheetReply bufferFor bufferAfter endsAfter postReply bytes blockOf T D DList L starred isHigh isItself isRepeated isUnreturned isBad firstBad
 starred-given = (
   (refl, refl),
   (
@@ -40,7 +40,7 @@ starred-given = (
                   refl,
                   (
                     (refl, refl),
-                    ((refl, refl), (refl, (refl, (refl, (refl, (refl, (refl, (refl, (refl, (refl, (refl, (refl, (refl, (refl, tt)))))))))))))),
+                    ((refl, refl), (refl, (refl, (refl, (refl, (refl, (refl, (refl, (refl, (refl, (refl, (refl, (refl, (refl, (refl, (refl, (refl, ((refl, refl), ((refl, refl), tt))))))))))))))))))),
                   ),
                 ),
               ),

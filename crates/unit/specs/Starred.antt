@@ -1,4 +1,4 @@
--- The cases with a star of docs/RULES.md (E1 to E9, E11 and E12 to E16), as one table.
+-- The cases with a star of docs/RULES.md (E1 to E9, E11 and E12 to E17), as one table.
 use Prim.Native.Nat.{ℕ, _/_, _%_}
 use mathlib.Core.Path.{_≡_}
 use mathlib.Core.List.{List, [], _∷_, _++_, map, flatMap, flatten}
@@ -6,9 +6,9 @@ use lib.ListN.{length, take, set}
 use Rattle.placing.specs.declared.Record.{Record}
 use Rattle.placing.specs.declared.Standing.the-variants.{Waiting, OnContour, Covered}
 use Rattle.block.specs.Block.{mark}
-use Rattle.rings.specs.Boards.{orderT, listsT, orderD, listsD}
+use Rattle.rings.specs.Boards.{orderT, listsT, orderD, listsD, listsL}
 use Rattle.lamp.specs.Given.{Reply, accepted, refused, checkReply}
-use Rattle.unit.specs.Replies.{sheetReply, bufferAfter, postReply}
+use Rattle.unit.specs.Replies.{sheetReply, bufferAfter, endsAfter, postReply}
 
 -- a block from its order, its lists and its sum
 unfoldable pub bytes : List ℕ → List ℕ
@@ -29,15 +29,21 @@ D order sum = blockOf order listsD sum
 unfoldable pub DList : ℕ → List ℕ → ℕ → List ℕ
 DList u l sum = blockOf orderD (set listsD u l) sum
 
--- a row: a call, and what it must give. Of a sheet call the buffer before and after
+-- Board L, and its sum
+unfoldable pub L : ℕ → List ℕ
+L sum = blockOf orderD listsL sum
+
+-- a row: a call, and what it must give. Of a call with a buffer, the buffer before and after
 pub data Case : Type 0 where
   check : List ℕ → Reply ℕ → Case
   sheet : List ℕ → ℕ → List ℕ → Reply ℕ → List ℕ → Case
+  ends : List ℕ → ℕ → List ℕ → Reply ℕ → List ℕ → Case
   post : List ℕ → ℕ → ℕ → Reply Record → Case
 
 abbrev pub Gives : Case → Type 0
 Gives (check s r) = checkReply s ≡ r
 Gives (sheet s k b r after) = (sheetReply s k b ≡ r) × (bufferAfter s k b ≡ after)
+Gives (ends s k b r after) = (sheetReply s k b ≡ r) × (endsAfter s k b ≡ after)
 Gives (post s k u r) = postReply s k u ≡ r
 
 abbrev pub AllGive : List Case → Type 0
@@ -80,4 +86,10 @@ starred =
     -- 16: two faults in one list, either one first
     ∷ check (DList 0 (1 ∷ 7 ∷ 1 ∷ 4 ∷ []) 288) (refused 9 0)
     ∷ check (DList 0 (1 ∷ 1 ∷ 7 ∷ 4 ∷ []) 288) (refused 19 0)
+    -- 17: L, where the run of post 3 goes over the end of its list: posts 3 and 0; the ends of all posts, with room and without
+    ∷ post (L 287) 4 3 (accepted (record { x = 2; y = 2; standing = OnContour 0 2; leftmost = 0; rightmost = 2 }))
+    ∷ post (L 287) 5 3 (accepted (record { x = 3; y = 2; standing = Covered 4; leftmost = 0; rightmost = 2 }))
+    ∷ post (L 287) 5 0 (accepted (record { x = 0; y = 0; standing = OnContour 0 4; leftmost = 0; rightmost = 0 }))
+    ∷ ends (L 287) 5 (9 ∷ 9 ∷ 9 ∷ 9 ∷ 9 ∷ 9 ∷ 9 ∷ 9 ∷ 9 ∷ 9 ∷ 9 ∷ []) (accepted 10) (0 ∷ 0 ∷ 1 ∷ 1 ∷ 0 ∷ 1 ∷ 0 ∷ 2 ∷ 0 ∷ 1 ∷ 9 ∷ [])
+    ∷ ends (L 287) 4 (9 ∷ 9 ∷ 9 ∷ 9 ∷ 9 ∷ 9 ∷ 9 ∷ []) (refused 16 0) (9 ∷ 9 ∷ 9 ∷ 9 ∷ 9 ∷ 9 ∷ 9 ∷ [])
     ∷ []
