@@ -6,7 +6,7 @@ use native.Mathlib.Omega.{arith}
 use lib.ListN.{length}
 use borrow.Author.Tests.{eq-eqb, ne-eqb}
 use Rattle.block.specs.Layout.{limit}
-use Rattle.block.specs.Block.{posts}
+use Rattle.block.specs.Block.{posts, lists}
 use Rattle.placing.specs.declared.Record.{Record}
 use Rattle.placing.specs.declared.Standing.{Standing}
 use Rattle.placing.specs.declared.Standing.the-variants.{Waiting, OnContour, Covered}
@@ -42,7 +42,7 @@ standings (OnContour l r) = refl
 standings (Covered b) = refl
 
 structs : (r : Reply Record) → PostFits r → readPost (postOf r) ≡ r
-structs (accepted r) h = ap (λ (s : Standing). accepted (record { x = r .x; y = r .y; standing = s })) (standings (r .standing))
+structs (accepted r) h = ap (λ (s : Standing). accepted (record { x = r .x; y = r .y; standing = s; leftmost = r .leftmost; rightmost = r .rightmost })) (standings (r .standing))
 structs (refused number place) h = refuses number place _ (h .0) (h .2)
 
 -- ---- what the services reply fits
@@ -77,7 +77,7 @@ post-fits : (s : List ℕ) (k u : ℕ) → PostFits (postReply s k u)
 unfolding postReply postRows
 post-fits s k u =
     fits (λ (v : Record). Unit {0}) (postReply s k u)
-    (told-sized s (λ z. recordOf (stageAt k z) u) (stageRows k ++ nameRows u) ((λ e. omega arith), ((λ e. omega arith), tt)))
+    (told-sized s (λ z. recordOf (lists z) (stageAt k z) u) (stageRows k ++ nameRows u) ((λ e. omega arith), ((λ e. omega arith), tt)))
     (λ r e. tt)
 
 -- ---- together

@@ -1,4 +1,4 @@
--- A reply as one number: number * 65536 + value; number 0 is acceptance. A post's reply as five numbers beside it.
+-- A reply as one number: number * 65536 + value; number 0 is acceptance. A post's reply as seven numbers beside it.
 use Prim.Native.Nat.{ℕ, _+_, _*_}
 use mathlib.Core.Path.{_≡_}
 use mathlib.Core.List.{List}
@@ -34,8 +34,18 @@ secondOf (Covered b) = b
 
 abbrev pub postOf : Reply Record → PostReply
 postOf (accepted r) =
-    record { reply = 0; x = r .x; y = r .y; standing = standingOf (r .standing); first = firstOf (r .standing); second = secondOf (r .standing) }
-postOf (refused number place) = record { reply = refusalCode number place; x = 0; y = 0; standing = 0; first = 0; second = 0 }
+    record {
+      reply = 0;
+      x = r .x;
+      y = r .y;
+      standing = standingOf (r .standing);
+      first = firstOf (r .standing);
+      second = secondOf (r .standing);
+      «fit_left» = r .leftmost;
+      «fit_right» = r .rightmost;
+    }
+postOf (refused number place) =
+    record { reply = refusalCode number place; x = 0; y = 0; standing = 0; first = 0; second = 0; «fit_left» = 0; «fit_right» = 0 }
 
 -- What is promised of each C function: of the code, with the buffer after a sheet call, and of a post's struct.
 abbrev pub CheckCode : List ℕ → ℕ → Type 0

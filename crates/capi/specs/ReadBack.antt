@@ -35,7 +35,14 @@ readStanding (suc zero) left right = OnContour left right
 readStanding (suc (suc more)) left right = Covered left
 
 abbrev pub readPost : PostReply → Reply Record
-readPost p = readReply (p .reply) (record { x = p .x; y = p .y; standing = readStanding (p .standing) (p .first) (p .second) })
+readPost p =
+    readReply (p .reply) (record {
+      x = p .x;
+      y = p .y;
+      standing = readStanding (p .standing) (p .first) (p .second);
+      leftmost = p .«fit_left»;
+      rightmost = p .«fit_right»;
+    })
 
 -- ---- what is read is what was replied
 

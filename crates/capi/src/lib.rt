@@ -18,6 +18,8 @@ pub struct PostReply {
     pub standing: u16,
     pub first: u16,
     pub second: u16,
+    pub fit_left: u16,
+    pub fit_right: u16,
 }
 
 fn refusal_code(r: Refusal) -> u32
@@ -91,6 +93,8 @@ fn of_record(r: Record) -> PostReply
         standing: standing_code(s),
         first: first(s),
         second: second(s),
+        fit_left: r.leftmost,
+        fit_right: r.rightmost,
     }
 }
 
@@ -104,6 +108,8 @@ fn of_refusal(r: Refusal) -> PostReply
         standing: 0,
         first: 0,
         second: 0,
+        fit_left: 0,
+        fit_right: 0,
     }
 }
 

@@ -258,11 +258,11 @@ pub fn ends_at(at: &[u16], ents: &[u16], vs: &[u16], begin: &[u16], long: &[u16]
     ensures { λ r. ⌜ now (buffer .exit) ≡ endsOf (held (now (at .entry)) (now (ents .entry))) (take k (now (vs .entry)))
         ++ drop (2 * k) (now (buffer .entry)) ⌝ }
 {
-    let mut i = 0;
-    while i < k {
-        let ends = ends_of(at, ents, vs, begin, long, i + 1);
-        buffer[2 * i] = ends.left;
-        buffer[2 * i + 1] = ends.right;
-        i += 1;
+    let mut j = 0;
+    while j < k {
+        let ends = ends_of(at, ents, vs, begin, long, j + 1);
+        buffer[2 * j] = ends.left;
+        buffer[2 * j + 1] = ends.right;
+        j += 1;
     }
 }

@@ -13,11 +13,11 @@ use Rattle.engine.proofs.Ending.{ends-are}
 use borrow.Author.Needs.{needs}
 
 abbrev Inv-loop : tie.InvT-loop
-Inv-loop at ents vs begin long k buffer₀ i₀ buffer i =
-    Writing (fitLeft (held at ents) vs) (fitRight (held at ents) vs) vs k buffer₀ buffer i
+Inv-loop at ents vs begin long k buffer₀ j₀ buffer j =
+    Writing (fitLeft (held at ents) vs) (fitRight (held at ents) vs) vs k buffer₀ buffer j
 
 abbrev μ-loop : tie.MeasureT-loop
-μ-loop at ents vs begin long k buffer₀ i₀ buffer i = k - i
+μ-loop at ents vs begin long k buffer₀ j₀ buffer j = k - j
 
 loop-holds : tie.Need-loop-holds Inv-loop μ-loop
 loop-holds c = write-start _ _ _ _ _
@@ -83,8 +83,8 @@ slice-write-buffer-2 c =
     let few = stage-within _ _ _ (entry .pre .0 .fitted) _ (entry .pre .0 .most) in
     simp length-set (omega (arith, entry .pre .1, turn .loop .inv .same))
 
-add-i : tie.Need-add-i Inv-loop μ-loop
-add-i c =
+add-j : tie.Need-add-j Inv-loop μ-loop
+add-j c =
     let turn = c .before .before in
     let entry = turn .before .before .before .before .before .before .before in
     let few = stage-within _ _ _ (entry .pre .0 .fitted) _ (entry .pre .0 .most) in
@@ -99,7 +99,7 @@ loop-again c =
     let entry = turn .before .before .before .before .before .before .before in
     let few = stage-within _ _ _ (entry .pre .0 .fitted) _ (entry .pre .0 .most) in
     let told = c .ends-of .ensures in
-    let one : turn .loop .i + 1 - 1 ≡ turn .loop .i = omega arith in
+    let one : turn .loop .j + 1 - 1 ≡ turn .loop .j = omega arith in
     write-again _ _ _ _ _ _ _ (turn .loop .inv) (omega arith) (entry .pre .0 .most) (entry .pre .1) _ _ (rw one at (told .0)) (rw one at (told .1))
 
 same-length : tie.Need-same-length Inv-loop μ-loop
@@ -129,7 +129,7 @@ ends-at-spec =
     add-buffer
     mul-buffer-4
     slice-write-buffer-2
-    add-i
+    add-j
     loop-less
     loop-again
     same-length

@@ -34,7 +34,7 @@ of-run-requires : tie.Need-of-run-requires
 of-run-requires c κs =
     let e = c .before .before .before .before .before .before .before .before in
     let two = two-posts _ _ _ (e .pre .0) _ _ (e .pre .1) _ (e .pre .2) (e .pre .3) (omega arith) in
-    kept-run _ _ _ (e .pre .0) _ _ (e .pre .1) _ (e .pre .2) (e .pre .3) (omega arith) 0 (omega (arith, two))
+    kept-run _ _ _ (e .pre .0) _ _ (e .pre .1) _ (e .pre .2) (e .pre .3) (omega arith) _ (omega (arith, two))
 
 sub-of-run : tie.Need-sub-of-run
 sub-of-run c =

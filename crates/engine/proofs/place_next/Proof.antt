@@ -16,7 +16,7 @@ of-run-requires c κs =
     let entry = c .before .before .before .before .before .before .before .before .before .before in
     let pre = entry .pre in
     let two = two-posts _ _ _ (pre .0) _ _ (pre .1) (entry .args .k + 1) (omega arith) (omega arith) (omega arith) in
-    kept-run _ _ _ (pre .0) _ _ (pre .1) _ (omega arith) (omega arith) (omega arith) 0 (omega (arith, two))
+    kept-run _ _ _ (pre .0) _ _ (pre .1) _ (omega arith) (omega arith) (omega arith) _ (omega (arith, two))
 
 mul-number : tie.Need-mul-number
 mul-number c = search needs
