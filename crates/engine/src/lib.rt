@@ -143,7 +143,20 @@ pub fn sheet_at(
     ensures { λ r. ⌜ now (buffer .exit) ≡ entriesOf (stage (held (now (at .entry)) (now (ents .entry))) (take k (now (vs .entry))))
         ++ drop (2 * k) (now (buffer .entry)) ⌝ }
 {
-    draw(at, ents, vs, begin, long, k, ys, off, cover, left, right, xs);
+    draw(
+        at,
+        ents,
+        vs,
+        begin,
+        long,
+        k,
+        ys,
+        off,
+        cover,
+        left,
+        right,
+        xs,
+    );
     placing::write_sheet(vs, k, xs, ys, buffer);
 }
 
@@ -248,12 +261,47 @@ pub fn post_at(
     ensures { λ r. ⌜ r ≡ recordOf (held (now (at .entry)) (now (ents .entry)))
         (stage (held (now (at .entry)) (now (ents .entry))) (take k (now (vs .entry)))) u ⌝ }
 {
-    draw(at, ents, vs, begin, long, k, ys, off, cover, left, right, xs);
-    record_at(at, ents, vs, rank, begin, long, k, u, ys, cover, left, right, xs)
+    draw(
+        at,
+        ents,
+        vs,
+        begin,
+        long,
+        k,
+        ys,
+        off,
+        cover,
+        left,
+        right,
+        xs,
+    );
+    record_at(
+        at,
+        ents,
+        vs,
+        rank,
+        begin,
+        long,
+        k,
+        u,
+        ys,
+        cover,
+        left,
+        right,
+        xs,
+    )
 }
 
 // The ends of the runs of the posts placed at stage k, two entries for each in its turn; the buffer beyond is as it was.
-pub fn ends_at(at: &[u16], ents: &[u16], vs: &[u16], begin: &[u16], long: &[u16], k: usize, buffer: &mut [u16])
+pub fn ends_at(
+    at: &[u16],
+    ents: &[u16],
+    vs: &[u16],
+    begin: &[u16],
+    long: &[u16],
+    k: usize,
+    buffer: &mut [u16],
+)
     requires { ⌜ Reachable (now at) (now ents) (now vs) (now begin) (now long) k × (2 * k ≤ length (now buffer)) ⌝ }
     ensures { λ r. ⌜ now (buffer .exit) ≡ endsOf (held (now (at .entry)) (now (ents .entry))) (take k (now (vs .entry)))
         ++ drop (2 * k) (now (buffer .entry)) ⌝ }

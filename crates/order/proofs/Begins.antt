@@ -98,7 +98,7 @@ module _ (G : List (List ℕ)) (placed : List ℕ) (v : ℕ) (o : Once (ring G v
     run-at = (
       begins-at .0,
       ap (λ (s : ℕ). length (lead placed (from s (ring G v)))) (begins-at .0) ∙ lead-length placed (from s (ring G v)) (begins-at .1)
-      ∙ from-count placed s (ring G v),
+          ∙ from-count placed s (ring G v),
     )
 
 -- Where the whole ring is placed, the run begins at v1's place, and is the whole ring read from there.

@@ -115,7 +115,7 @@ module _ (placed : List ℕ) where
   openings-starts [] = refl
   openings-starts (y ∷ l) = starts-from (lastOf y l) (y ∷ l) ∙ starts-last y l
 
--- ---- where the last of them begins
+  -- ---- where the last of them begins
   -- in x ∷ l, where the places of l are counted from i
   abbrev Opened : ℕ → ℕ → List ℕ → ℕ → Type 0
   Opened i x l r = (i ≤ r) × (r < i + length l) × ((b : ℕ) × Adj (x ∷ l) b (getD l (r - i) 0) × ¬ (In b placed)) × In (getD l (r - i) 0) placed

@@ -1,4 +1,4 @@
--- Where runs begin in a ring, as one pass over it finds them, by positions.
+-- Where runs begin in a ring that is not placed as a whole, as one pass over it finds them, by positions.
 use Prim.Native.Nat.{ℕ, suc, _+_}
 use mathlib.Core.Bool.{Bool, not, cond, _&&_}
 use mathlib.Core.List.{List, [], _∷_}

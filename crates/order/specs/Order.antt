@@ -43,7 +43,7 @@ unfoldable pub begins : List (List ℕ) → List ℕ → ℕ → ℕ → Bool
 begins G placed v s =
     leads placed (from s (ring G v)) && (not (allOf (mem placed) (ring G v)) || eqb (getD (ring G v) s 0) (post placed 1))
 
--- the first such place, counted from 0; beyond the list if there is none
+-- the first such place, counted from 0; the list's length if there is none
 abbrev pub runBegin : List (List ℕ) → List ℕ → ℕ → ℕ
 runBegin G placed v = first 0 (length (ring G v)) (begins G placed v)
 

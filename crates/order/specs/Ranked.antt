@@ -38,11 +38,13 @@ pub record Listed (at ents vs rank : List ℕ) : Type 0 where
   pub rings : (u : ℕ) → u < length (held at ents) → ringRule (held at ents) u ≡ true
   pub ranked : RankedBelow (length (held at ents)) vs rank
 
--- where the run of the post in position k begins, and how long it is, stand in the k-th places of two lists, for positions from 3 to before m
+-- where the run of the post in position k begins (a place counted from 0), and how long it is, are the k-th entries of two lists, for positions
+-- from 3 on and before m
 pub record RunsBefore (G : List (List ℕ)) (vs begin long : List ℕ) (m : ℕ) : Type 0 where
   pub begin-is : (k : ℕ) → 3 ≤ k → k < m → getD begin (k - 1) 0 ≡ runBegin G (earlier vs k) (post vs k)
   pub long-is : (k : ℕ) → 3 ≤ k → k < m → getD long (k - 1) 0 ≡ length (run G (earlier vs k) (post vs k))
 
--- what 12 and 13 find in v, the next post: where its run begins in its ring, and how long it is; or fewer than two placed neighbours; or not one run
+-- what 12 and 13 find in v, the next post: where its run begins in its list, and how long it is; or fewer than two placed neighbours; or not one
+-- run. Where the whole ring is placed and the first post is not in it, the begin is beyond the list
 abbrev pub fitOf : List (List ℕ) → List ℕ → ℕ → Fit
 fitOf G placed v = cond (twoPlaced G placed v) (cond (oneRun G placed v) (Good (runBegin G placed v) (length (run G placed v))) Broken) Few

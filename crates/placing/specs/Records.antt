@@ -1,4 +1,4 @@
--- What a stage tells: a post's record (R1 to R5, R8), and the entries of its sheet (R6); and the ends of its posts' runs.
+-- What a stage tells: a post's record (R1 to R5, R8), the entries of its sheet (R6), and the ends of the runs of all its posts.
 use Prim.Native.Nat.{ℕ}
 use mathlib.Core.Bool.{cond}
 use mathlib.Core.List.{List, [], _∷_, flatMap}
@@ -26,11 +26,11 @@ unfoldable pub standing : Stage → ℕ → Standing
 standing t u =
     cond (mem (t .contour) u) (OnContour (leftOf (t .contour) u) (rightOf (t .contour) u)) (cond (mem (t .placed) u) (Covered (t .cover u)) Waiting)
 
--- the run over which the post u of a list was placed: its neighbours in earlier positions, left to right
+-- the run over which u, a post of the list, was placed: its neighbours in earlier positions, left to right
 unfoldable pub runOf : List (List ℕ) → List ℕ → ℕ → List ℕ
 runOf G vs u = run G (earlier vs (positionOf vs u)) u
 
--- R8: the ends of that run, its leftmost and its rightmost post; the posts in positions 1 and 2 have none, and count as their own
+-- R8: the ends of that run, its first and its last post; the posts in positions 1 and 2 have no run, and are their own ends
 unfoldable pub fitLeft : List (List ℕ) → List ℕ → ℕ → ℕ
 fitLeft G vs u = cond (leb 3 (positionOf vs u)) (post (runOf G vs u) 1) u
 

@@ -14,7 +14,7 @@ pub enum Standing {
     Covered(u16),
 }
 
-// A post's record at a stage. It was fitted between the ends of its run, its leftmost and its rightmost neighbour placed before it; v1, v2 and a
+// A post's record at a stage. A placed post was fitted between its leftmost and its rightmost neighbour of those placed before it; v1, v2 and a
 // post that waits carry their own names there.
 pub struct Record {
     pub x: u16,

@@ -121,8 +121,7 @@ module _ (G : List (List ℕ)) (vn : ℕ) (vs : List ℕ) (P : Plane G (post vs 
     where
       of-third : TwoEnds G (earlier vs 3) (post vs 3)
       of-third =
-          rw (third-run G vn vs P A (omega arith))
-          (
+          rw (third-run G vn vs P A (omega arith)) (
             omega arith,
             take-in 2 vs 0 (omega arith) (omega arith),
             take-in 2 vs 1 (omega arith) (omega arith),

@@ -1,4 +1,4 @@
--- Beside the demands: what is told of a post's run is so, and "fit between a and b" is true on the sheet (docs/RULES.md: O6, R8, X4). Of any unit with
+-- Beside the demands: what is told of a post's run is so, and "fit between a and b" is true on the sheet (docs/RULES.md: O6, R8, X9). Of any unit with
 -- the three services.
 use Prim.Native.Nat.{ℕ, _+_, _*_, _-_, _≤_, _<_}
 use mathlib.Core.Path.{_≡_}

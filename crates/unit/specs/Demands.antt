@@ -54,7 +54,7 @@ pub record Demand2 (U : Services) : Type 0 where
   pub exactly : (s : List ℕ) → Framed s → Accepted (U .check s) ↔ Sound s
   -- and all the rest are refused
   pub others : (s : List ℕ) → ¬ (Framed s × Sound s) → Refused (U .check s)
-  -- a sheet has the places of the shift method (S4 to S8), and from entry 2k on what the buffer had (R7); a record has its post's place
+  -- a sheet has the places of the shift method (S4 to S8), and from entry 2k on what the buffer had (R7); a record has its post's place and ends
   pub stands : (s : List ℕ) (k : ℕ) (b : List ℕ) → Accepted (U .sheet s k b) → U .buffer s k b ≡ entriesOf (stageAt k s) ++ drop (2 * k) b
   pub recorded : (s : List ℕ) (k u : ℕ) → Accepted (U .post s k u) → U .post s k u ≡ accepted (recordOf (lists s) (stageAt k s) u)
 

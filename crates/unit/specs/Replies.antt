@@ -1,4 +1,4 @@
--- The reply of each service, and the sheet buffer after a call, as functions of everything handed in; check's is lamp's checkReply.
+-- The reply of each service, and the buffer after a call of sheet or ends, as functions of everything handed in; check's is lamp's checkReply.
 use Prim.Native.Nat.{ℕ, _*_}
 use mathlib.Core.List.{List, _++_}
 use lib.ListN.{length, take, drop}
@@ -28,7 +28,7 @@ bufferFor (refused number place) w b = b
 unfoldable pub bufferAfter : List ℕ → ℕ → List ℕ → List ℕ
 bufferAfter s k b = bufferFor (sheetReply s k b) (entriesOf (stageAt k s)) b
 
--- ends, whose reply is the same, writes the left and the right end of the run of v1 up to vk
+-- ends, whose reply is the same, writes for each of v1 to vk the left and the right end of its run; for v1 and v2 their own names
 unfoldable pub endsAfter : List ℕ → ℕ → List ℕ → List ℕ
 endsAfter s k b = bufferFor (sheetReply s k b) (endsOf (lists s) (take k (order s))) b
 

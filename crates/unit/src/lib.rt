@@ -45,7 +45,14 @@ pub fn check(s: &[u8]) -> Answer
     let mut begin = block::no_names();
     let mut long = block::no_names();
     lamp::check_into(
-        s, &mut vs, &mut ds, &mut at, &mut ents, &mut rank, &mut begin, &mut long,
+        s,
+        &mut vs,
+        &mut ds,
+        &mut at,
+        &mut ents,
+        &mut rank,
+        &mut begin,
+        &mut long,
     )
 }
 
@@ -234,7 +241,14 @@ fn serve(s: &[u8], k: usize, ask: Ask, buffer: &mut [u16]) -> Served
     let mut begin = block::no_names();
     let mut long = block::no_names();
     let answer = lamp::check_into(
-        s, &mut vs, &mut ds, &mut at, &mut ents, &mut rank, &mut begin, &mut long,
+        s,
+        &mut vs,
+        &mut ds,
+        &mut at,
+        &mut ents,
+        &mut rank,
+        &mut begin,
+        &mut long,
     );
     let Answer::Accepted(posts) = answer else {
         return Served {

@@ -102,8 +102,8 @@ pub fn large_boards(trial: &mut Trial) {
 /// each post (docs/PROMISES.md, Memory), and room for the rest of the frames
 /// and for the thread's own use.
 const FRAMES: usize = 7 * 1024;
-const CHECK_STACK: usize = 21 * MOST + FRAMES;
-const SHEET_STACK: usize = 33 * MOST + FRAMES;
+const CHECK_STACK: usize = 25 * MOST + FRAMES;
+const SHEET_STACK: usize = 37 * MOST + FRAMES;
 
 pub fn small_stacks(trial: &mut Trial) {
     let n = MOST;

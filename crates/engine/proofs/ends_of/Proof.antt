@@ -52,11 +52,10 @@ of-run-requires-2 c κs =
 
 returns-2 : tie.Need-returns-2
 returns-2 c =
-    let e = c .before .before .before .before .before .before .before .before .before .before in
-    (
+    let e = c .before .before .before .before .before .before .before .before .before .before in (
       left-is _ _ _ (e .pre .0) _ _ (e .pre .1) _ (e .pre .2) (e .pre .3) (omega arith) _ (c .before .of-run .ensures),
       right-is _ _ _ (e .pre .0) _ _ (e .pre .1) _ (e .pre .2) (e .pre .3) (omega arith) _ _ (c .before .before .number .ensures .0)
-      (c .of-run2 .ensures),
+          (c .of-run2 .ensures),
     )
 
 pub ends-of-spec : {M : Type 1} → statement M

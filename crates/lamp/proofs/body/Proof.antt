@@ -47,8 +47,7 @@ loaded-requires c κs =
     let s = entry .args .s .now in
     let told = past .enum-told .given .1 in
     let none = none-applied s loadRows (asked .result) (asked .ensures .0) _ told in
-    let names = entered s (none-left orderRows degreeRows s none) in
-    (
+    let names = entered s (none-left orderRows degreeRows s none) in (
       entry .pre .0,
       record { names = search needs; places = search needs; all = search needs },
       asked .ensures .1 _ (ap replyOf told),

@@ -67,8 +67,7 @@ returns-2 c =
     let entry = asking .before .before .before .before .before .before .before .before in
     let s = entry .args .s .now in
     let L = entry .pre .0 in
-    let rest = ap (λ (n : ℕ). given (rowsFrom 3 n) s posts) (L .headed .is) in
-    (
+    let rest = ap (λ (n : ℕ). given (rowsFrom 3 n) s posts) (L .headed .is) in (
       fitting .fitting .ensures .0 ∙ rest ∙ goes-on s boardRows (asked .result) (asked .ensures) (rowsFrom 3 (posts s)) _ (past .enum-told .given .1),
       λ n f. ordered s _ _ _ _ (L .headed .is) (L .orders) (ranking .ranks .ensures) (fitting .fitting .ensures .1 n f),
     )

@@ -91,8 +91,7 @@ loop-again c =
     let counted = count-step l (v .i) (a .e) (omega arith) (omega arith) p in
     let begun = openings-step p l (v .i) (a .e) (omega arith) (omega arith) (v .last) h o eh eo in
     let found = opening-step p l (v .i) (a .e) (omega arith) (omega arith) (v .last) h o eh eo (v .begin) (v .i - a .b) in
-    let next : v .i + 1 - a .b ≡ suc (v .i - a .b) = omega arith in
-    (
+    let next : v .i + 1 - a .b ≡ suc (v .i - a .b) = omega arith in (
       search needs,
       search needs,
       omega (arith, v .inv .2, counted, one .one-if .ensures .0, ap {B = ℕ} (λ (z : Bool). cond z 1 0) eh),

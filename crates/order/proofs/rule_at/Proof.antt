@@ -76,7 +76,7 @@ returns-2 c =
     let eb = b .number2 .ensures .0 in
     let ee = e .number3 .ensures .0 in
     let found = found-placed _ _ _ _ (pre .0) _ _ _ _ (pre .2) (pre .3) ev eb ee _ _ _ (seen .pass-over .ensures) in
-    rule-broken _ _ _ _ (pre .0) _ _ _ _ (pre .2) (pre .3) ev eb ee _ _ _ found (omega (arith, c .before .before .if1 .left)) (c .if2 .taken)
+    rule-broken _ _ _ _ (pre .0) _ _ _ _ (pre .2) (pre .3) ev eb ee _ _ _ found (omega (arith, c .before .before .if1 .left)) (omega (arith, c .if2 .taken))
 
 cast-t17 : tie.Need-cast-t17
 cast-t17 c =
@@ -160,7 +160,7 @@ returns-4 c =
     let found = found-placed _ _ _ _ (pre .0) _ _ _ _ (pre .2) (pre .3) ev eb ee _ _ _ (seen .pass-over .ensures) in
     let enough = c .before .before .before .before .before .before .before .if1 .left in
     let few = c .before .before .before .before .before .if2 .left in
-    rule-whole _ _ _ _ (pre .0) _ _ _ _ (pre .2) (pre .3) ev eb ee _ _ _ found (omega arith) (c .before .before .before .if3 .left) few _ (c .before .place-of .ensures .0)
+    rule-whole _ _ _ _ (pre .0) _ _ _ _ (pre .2) (pre .3) ev eb ee _ _ _ found (omega arith) (c .before .before .before .if3 .left) (omega (arith, few)) _ (c .before .place-of .ensures .0)
 
 pub rule-at-spec : {M : Type 1} → statement M
 rule-at-spec =

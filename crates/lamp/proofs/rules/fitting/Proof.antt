@@ -35,8 +35,7 @@ position-requires c κs =
     let turn = c .before .before .before in
     let entry = turn .before .before .before .before .before .before .before .before in
     let W = entry .pre .3 in
-    let inv = turn .loop .inv in
-    (
+    let inv = turn .loop .inv in (
       entry .pre .0,
       entry .pre .1,
       entry .pre .2,
@@ -77,8 +76,7 @@ loop-again c =
     let asked = c .before .before .before .before .before .before in
     let v = asked .before .before .before .before .loop in
     let told = ap replyOf (c .enum-told .given .1) in
-    let given = sym (asked .position .ensures .0) ∙ told in
-    (
+    let given = sym (asked .position .ensures .0) ∙ told in (
       search needs,
       search needs,
       v .inv .2 ∙ rows-passed _ (v .k) _ (omega arith) _ given,

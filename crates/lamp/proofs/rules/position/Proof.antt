@@ -77,8 +77,7 @@ returns-2 : tie.Need-returns-2
 returns-2 c =
     let ruled = c .before .before in
     let entry = ruled .before .before .before .before .before .before .before .before in
-    let q : ruled .rule-at .result ≡ Fit.Few = c .enum-told .given .1 in
-    (
+    let q : ruled .rule-at .result ≡ Fit.Few = c .enum-told .given .1 in (
       sym (ap (λ (f : Fit). replyOf (answerAt (entry .args .k) f)) q) ∙ position-found _ _ _ _ (entry .pre .0) _ _ (ruled .rule-at .ensures),
       λ m. never _ (Few (entry .args .k)) m refl,
     )
@@ -87,8 +86,7 @@ returns-3 : tie.Need-returns-3
 returns-3 c =
     let ruled = c .before .before in
     let entry = ruled .before .before .before .before .before .before .before .before in
-    let q : ruled .rule-at .result ≡ Fit.Broken = c .enum-told2 .given .1 in
-    (
+    let q : ruled .rule-at .result ≡ Fit.Broken = c .enum-told2 .given .1 in (
       sym (ap (λ (f : Fit). replyOf (answerAt (entry .args .k) f)) q) ∙ position-found _ _ _ _ (entry .pre .0) _ _ (ruled .rule-at .ensures),
       λ m. never _ (Broken (entry .args .k)) m refl,
     )
