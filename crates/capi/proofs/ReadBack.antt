@@ -42,7 +42,8 @@ standings (OnContour l r) = refl
 standings (Covered b) = refl
 
 structs : (r : Reply Record) → PostFits r → readPost (postOf r) ≡ r
-structs (accepted r) h = ap (λ (s : Standing). accepted (record { x = r .x; y = r .y; standing = s; leftmost = r .leftmost; rightmost = r .rightmost })) (standings (r .standing))
+structs (accepted r) h =
+    ap (λ (s : Standing). accepted (record { x = r .x; y = r .y; standing = s; leftmost = r .leftmost; rightmost = r .rightmost })) (standings (r .standing))
 structs (refused number place) h = refuses number place _ (h .0) (h .2)
 
 -- ---- what the services reply fits

@@ -50,6 +50,16 @@ abbrev pub AllGive : List Case → Type 0
 AllGive [] = Unit {0}
 AllGive (c ∷ l) = Gives c × AllGive l
 
+-- 17: L, where the run of post 3 goes over the end of its list: posts 3 and 0; the ends of all posts, with room and without
+unfoldable pub starredEnds : List Case
+starredEnds =
+    post (L 287) 4 3 (accepted (record { x = 2; y = 2; standing = OnContour 0 2; leftmost = 0; rightmost = 2 }))
+    ∷ post (L 287) 5 3 (accepted (record { x = 3; y = 2; standing = Covered 4; leftmost = 0; rightmost = 2 }))
+    ∷ post (L 287) 5 0 (accepted (record { x = 0; y = 0; standing = OnContour 0 4; leftmost = 0; rightmost = 0 }))
+    ∷ ends (L 287) 5 (9 ∷ 9 ∷ 9 ∷ 9 ∷ 9 ∷ 9 ∷ 9 ∷ 9 ∷ 9 ∷ 9 ∷ 9 ∷ []) (accepted 10) (0 ∷ 0 ∷ 1 ∷ 1 ∷ 0 ∷ 1 ∷ 0 ∷ 2 ∷ 0 ∷ 1 ∷ 9 ∷ [])
+    ∷ ends (L 287) 4 (9 ∷ 9 ∷ 9 ∷ 9 ∷ 9 ∷ 9 ∷ 9 ∷ []) (refused 16 0) (9 ∷ 9 ∷ 9 ∷ 9 ∷ 9 ∷ 9 ∷ 9 ∷ [])
+    ∷ []
+
 unfoldable pub starred : List Case
 starred =
     -- 1: T, stage 3
@@ -86,10 +96,4 @@ starred =
     -- 16: two faults in one list, either one first
     ∷ check (DList 0 (1 ∷ 7 ∷ 1 ∷ 4 ∷ []) 288) (refused 9 0)
     ∷ check (DList 0 (1 ∷ 1 ∷ 7 ∷ 4 ∷ []) 288) (refused 19 0)
-    -- 17: L, where the run of post 3 goes over the end of its list: posts 3 and 0; the ends of all posts, with room and without
-    ∷ post (L 287) 4 3 (accepted (record { x = 2; y = 2; standing = OnContour 0 2; leftmost = 0; rightmost = 2 }))
-    ∷ post (L 287) 5 3 (accepted (record { x = 3; y = 2; standing = Covered 4; leftmost = 0; rightmost = 2 }))
-    ∷ post (L 287) 5 0 (accepted (record { x = 0; y = 0; standing = OnContour 0 4; leftmost = 0; rightmost = 0 }))
-    ∷ ends (L 287) 5 (9 ∷ 9 ∷ 9 ∷ 9 ∷ 9 ∷ 9 ∷ 9 ∷ 9 ∷ 9 ∷ 9 ∷ 9 ∷ []) (accepted 10) (0 ∷ 0 ∷ 1 ∷ 1 ∷ 0 ∷ 1 ∷ 0 ∷ 2 ∷ 0 ∷ 1 ∷ 9 ∷ [])
-    ∷ ends (L 287) 4 (9 ∷ 9 ∷ 9 ∷ 9 ∷ 9 ∷ 9 ∷ 9 ∷ []) (refused 16 0) (9 ∷ 9 ∷ 9 ∷ 9 ∷ 9 ∷ 9 ∷ 9 ∷ [])
-    ∷ []
+    ∷ starredEnds

@@ -4,15 +4,17 @@ ghost use mathlib.Core.Path.{_≡_};
 ghost use Prim.Native.Nat.{_+_, _≤_};
 ghost use lib.ListN.{length, take};
 ghost use Rattle.block.specs.Layout.{limit, entries};
-ghost use Rattle.block.specs.Block.{posts, Headed};
+ghost use Rattle.block.specs.Block.{posts};
 ghost use Rattle.rings.specs.Held.{held};
 ghost use Rattle.order.specs.Fitted.{Reachable};
 ghost use Rattle.order.specs.Ranked.{RankedBelow};
-ghost use Rattle.lamp.specs.Lamp.{roomRows, nameRows};
-ghost use Rattle.lamp.specs.Given.{accepted, replyOf, given, checkReply};
+ghost use Rattle.lamp.specs.Given.{accepted, checkReply};
 ghost use Rattle.lamp.specs.Loaded.{Wide, WideOrder, Checked};
 ghost use Rattle.unit.specs.Promises.{CheckPromise, SheetPromise, EndsPromise, PostPromise};
-ghost use Rattle.unit.specs.Asked.{furtherRows, Within, Tells, Serves};
+ghost use Rattle.unit.specs.Asked.{Within, Tells, Serves};
+
+mod rows;
+
 use block::Block;
 use lamp::Answer;
 use lamp::Refusal;
@@ -77,46 +79,6 @@ fn no_record() -> Record {
         standing: Standing::Waiting,
         leftmost: 0,
         rightmost: 0,
-    }
-}
-
-// The room in a buffer.
-fn room_row(s: &[u8], n: usize, k: usize, room: usize) -> Answer
-    requires { ⌜ Headed (now s) n × (k ≤ n) ⌝ }
-    ensures { λ r. ⌜ replyOf r ≡ given (roomRows k room) (now (s .entry)) posts ⌝ }
-{
-    if room < 2 * k {
-        return Answer::Refused(Refusal::Room);
-    }
-    Answer::Accepted(n as u16)
-}
-
-// The name of a post.
-fn name_row(s: &[u8], n: usize, u: usize) -> Answer
-    requires { ⌜ Headed (now s) n ⌝ }
-    ensures { λ r. ⌜ replyOf r ≡ given (nameRows u) (now (s .entry)) posts ⌝ }
-{
-    if n <= u {
-        return Answer::Refused(Refusal::Name);
-    }
-    Answer::Accepted(n as u16)
-}
-
-// The rows that follow check's: the stage, and the one of what is asked.
-fn further(s: &[u8], n: usize, k: usize, ask: Ask, room: usize) -> Answer
-    requires { ⌜ Headed (now s) n ⌝ }
-    ensures { λ r. ⌜ replyOf r ≡ given (furtherRows ask k room) (now (s .entry)) posts ⌝ }
-{
-    if k < 3 {
-        return Answer::Refused(Refusal::Stage);
-    }
-    if n < k {
-        return Answer::Refused(Refusal::Stage);
-    }
-    match ask {
-        Ask::Sheet => room_row(s, n, k, room),
-        Ask::Ends => room_row(s, n, k, room),
-        Ask::Post(u) => name_row(s, n, u),
     }
 }
 
@@ -202,7 +164,7 @@ fn answered(
         × Wide (now vs) (now at) (now ents) × WideOrder (now rank) (now begin) (now long) ⌝ }
     ensures { λ r. ⌜ Serves ask k (now (s .entry)) (now (buffer .entry)) r (now (buffer .exit)) ⌝ }
 {
-    let answer = further(s, n, k, ask, buffer.len());
+    let answer = rows::further(s, n, k, ask, buffer.len());
     let Answer::Accepted(_) = answer else {
         return Served {
             answer,

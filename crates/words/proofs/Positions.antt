@@ -74,7 +74,8 @@ module _ (vs : List ℕ) (o : Once vs) (k : ℕ) (h : 1 ≤ k) (i : k ≤ length
   earlier-or a j f g l = in-cases a (earlier vs k) (post vs k ∷ later vs k) f (elim [ inl e ↦ g e | inr m ↦ l m ]) (rw (at-position vs k h i) at j)
 
 -- the position of a post that is among the first k
-pub position-is : (vs : List ℕ) (k u : ℕ) → In u (take k vs) → (positionOf vs u - 1 < k) × (positionOf vs u - 1 < length vs) × (getD vs (positionOf vs u - 1) 0 ≡ u)
+pub position-is : (vs : List ℕ) (k u : ℕ) → In u (take k vs)
+    → (positionOf vs u - 1 < k) × (positionOf vs u - 1 < length vs) × (getD vs (positionOf vs u - 1) 0 ≡ u)
 position-is vs k u h = go (in-take k vs u h)
   where
     F : ℕ

@@ -9,7 +9,8 @@ reach-requires c κs = search needs
 columns-requires : tie.Need-columns-requires
 columns-requires c κs =
     let reached = c .before .before .before .before .before .before .before .before .before .before .before .before .before .before in
-    let entry = reached .before .before .before .before .before .before .before .before .before .before .before .before .before .before .before .before .before in
+    let back = reached .before .before .before .before .before .before .before .before .before .before in
+    let entry = back .before .before .before .before .before .before .before in
     let stage = entry .pre .0 in
     readable _ _ _ (stage .fitted) _ (stage .least) (stage .most) _ _ _ _ _ (reached .reach .ensures) _ (entry .pre .2)
 
@@ -35,7 +36,8 @@ returns : tie.Need-returns
 returns c =
     let told = c .before .before in
     let reached = told .before .before .before .before .before .before .before .before .before .before .before .before .before .before .before in
-    let entry = reached .before .before .before .before .before .before .before .before .before .before .before .before .before .before .before .before .before in
+    let back = reached .before .before .before .before .before .before .before .before .before .before in
+    let entry = back .before .before .before .before .before .before .before in
     let stage = entry .pre .0 in
     drawn _ _ _ (stage .fitted) _ (stage .least) (stage .most) _ _ _ _ _ (reached .reach .ensures) _ (entry .pre .2) _ (told .columns .ensures)
     (search needs)

@@ -27,13 +27,15 @@ shared-slice-read-start-3 c = search needs
 
 start-requires : tie.Need-start-requires Inv-loop μ-loop
 start-requires c κs =
-    let entry = c .before .before .before .before .before .before .before .before .before .before .before .before .before .before .before .before .before .before in
+    let back = c .before .before .before .before .before .before .before .before .before .before in
+    let entry = back .before .before .before .before .before .before .before .before in
     corners-ready _ _ _ _ _ _ _ _ (entry .pre .0 .fitted) (entry .pre .1)
 
 loop-holds : tie.Need-loop-holds Inv-loop μ-loop
 loop-holds c =
     let started = c .before .before .before .before .before .before .before .before .before .before in
-    let entry = started .before .before .before .before .before .before .before .before .before .before .before .before .before .before .before .before .before .before .before in
+    let back = started .before .before .before .before .before .before .before .before .before .before in
+    let entry = back .before .before .before .before .before .before .before .before .before in
     let begun = started .start .ensures in (
       search needs,
       search needs,
@@ -50,14 +52,18 @@ place-next-requires : tie.Need-place-next-requires Inv-loop μ-loop
 place-next-requires c κs =
     let in-loop = c .before .before .before .before .before in
     let turn = in-loop .before in
-    let entry = turn .before .before .before .before .before .before .before .before .before .before .before .before .before .before .before .before .before .before .before .before .before .before .before .before .before .before .before .before .before .before in
+    let back = turn .before .before .before .before .before .before .before .before .before .before in
+    let lent = back .before .before .before .before .before .before .before .before .before .before in
+    let entry = lent .before .before .before .before .before .before .before .before .before .before in
     let stage = entry .pre .0 in
     (stage .fitted, stage .kept, turn .loop .inv .0, omega (arith, in-loop .loop-test .taken, stage .most), turn .loop .inv .2)
 
 add-i : tie.Need-add-i Inv-loop μ-loop
 add-i c =
     let turn = c .before .before .before .before .before .before .before .before .before .before .before .before .before .before .before .before .before in
-    let entry = turn .before .before .before .before .before .before .before .before .before .before .before .before .before .before .before .before .before .before .before .before .before .before .before .before .before .before .before .before .before .before in
+    let back = turn .before .before .before .before .before .before .before .before .before .before in
+    let lent = back .before .before .before .before .before .before .before .before .before .before in
+    let entry = lent .before .before .before .before .before .before .before .before .before .before in
     omega (arith, turn .loop .inv .1, entry .pre .0 .most, entry .pre .0 .fitted .most)
 
 loop-less : tie.Need-loop-less Inv-loop μ-loop
@@ -86,7 +92,9 @@ same-length-5 c = search needs
 returns : tie.Need-returns Inv-loop μ-loop
 returns c =
     let turn = c .before in
-    let entry = turn .before .before .before .before .before .before .before .before .before .before .before .before .before .before .before .before .before .before .before .before .before .before .before .before .before .before .before .before .before .before in
+    let back = turn .before .before .before .before .before .before .before .before .before .before in
+    let lent = back .before .before .before .before .before .before .before .before .before .before in
+    let entry = lent .before .before .before .before .before .before .before .before .before .before in
     let args = entry .args in
     let now = turn .loop in
     let q : now .i ≡ args .k = omega arith in

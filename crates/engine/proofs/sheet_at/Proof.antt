@@ -11,7 +11,8 @@ draw-requires c κs = search needs
 write-sheet-requires : tie.Need-write-sheet-requires
 write-sheet-requires c κs =
     let drawn = c .before .before .before .before .before .before .before .before .before .before .before .before .before .before .before in
-    let pre = drawn .before .before .before .before .before .before .before .before .before .before .before .before .before .before .before .before .before .before .before .pre in
+    let back = drawn .before .before .before .before .before .before .before .before .before .before in
+    let pre = back .before .before .before .before .before .before .before .before .before .pre in
     let stage = pre .0 in (
       omega (arith, stage .most),
       omega (arith, stage-within _ _ _ (stage .fitted) _ (stage .most)),
@@ -44,7 +45,8 @@ returns : tie.Need-returns
 returns c =
     let written = c .before .before in
     let drawn = written .before .before .before .before .before .before .before .before .before .before .before .before .before .before .before .before in
-    let stage = drawn .before .before .before .before .before .before .before .before .before .before .before .before .before .before .before .before .before .before .before .pre .0 in
+    let back = drawn .before .before .before .before .before .before .before .before .before .before in
+    let stage = back .before .before .before .before .before .before .before .before .before .pre .0 in
     sheet-is _ _ _ (stage .fitted) _ (stage .least) (stage .most) _ _ _ _ _ _ (drawn .draw .ensures) _ _ (written .write-sheet .ensures)
 
 pub sheet-at-spec : {M : Type 1} → statement M

@@ -160,7 +160,8 @@ returns-4 c =
     let found = found-placed _ _ _ _ (pre .0) _ _ _ _ (pre .2) (pre .3) ev eb ee _ _ _ (seen .pass-over .ensures) in
     let enough = c .before .before .before .before .before .before .before .if1 .left in
     let few = c .before .before .before .before .before .if2 .left in
-    rule-whole _ _ _ _ (pre .0) _ _ _ _ (pre .2) (pre .3) ev eb ee _ _ _ found (omega arith) (c .before .before .before .if3 .left) (omega (arith, few)) _ (c .before .place-of .ensures .0)
+    rule-whole _ _ _ _ (pre .0) _ _ _ _ (pre .2) (pre .3) ev eb ee _ _ _ found (omega arith) (c .before .before .before .if3 .left)
+    (omega (arith, few)) _ (c .before .place-of .ensures .0)
 
 pub rule-at-spec : {M : Type 1} → statement M
 rule-at-spec =

@@ -65,7 +65,8 @@ returns c =
     let past = c .before in
     let checking = past .before .before .before .before .before .before .before .before .before in
     let asked = checking .check-into in
-    let entry = checking .before .before .before .before .before .before .before .before .before .before .before .before .before .before .before .before .before in
+    let back = checking .before .before .before .before .before .before .before .before .before .before in
+    let entry = back .before .before .before .before .before .before .before in
     check-refuses (entry .args .s .now) (entry .args .k) (entry .args .buffer .now) (entry .args .ask) _ _ (past .enum-told .given .1) _ (asked .ensures .0)
 
 number-requires : tie.Need-number-requires
@@ -94,7 +95,8 @@ answered-requires c κs =
     let counting = c .before .before .before .before .before .before .before in
     let known = counting .before .before in
     let checking = known .before .before .before .before .before .before .before .before .before in
-    let entry = checking .before .before .before .before .before .before .before .before .before .before .before .before .before .before .before .before .before in
+    let back = checking .before .before .before .before .before .before .before .before .before .before in
+    let entry = back .before .before .before .before .before .before .before in
     let lengths = checking .before .before .before .before .before .before .before .before in
     let begins = lengths .before in
     let ranks = begins .before in

@@ -1,6 +1,6 @@
 use borrow.Author.Needs.{needs}
-use Rattle.unit.proofs.further.Statement.{statement}
-use Rattle.unit.proofs.further.Tie as tie
+use Rattle.unit.proofs.rows.further.Statement.{statement}
+use Rattle.unit.proofs.rows.further.Tie as tie
 use native.Mathlib.Omega.{arith}
 use mathlib.Core.Path.{_≡_, _∙_, subst⁻¹}
 use mathlib.Core.List.{[], _∷_}

@@ -1,6 +1,6 @@
 use borrow.Author.Needs.{needs}
-use Rattle.engine.proofs.standing_at.Statement.{statement}
-use Rattle.engine.proofs.standing_at.Tie as tie
+use Rattle.engine.proofs.records.standing_at.Statement.{statement}
+use Rattle.engine.proofs.records.standing_at.Tie as tie
 use Rattle.engine.proofs.Recording.{stands-on, stands-covered}
 
 number-requires : tie.Need-number-requires

@@ -1,5 +1,5 @@
-use Rattle.engine.proofs.ends_at.Statement.{statement}
-use Rattle.engine.proofs.ends_at.Tie as tie
+use Rattle.engine.proofs.records.ends_at.Statement.{statement}
+use Rattle.engine.proofs.records.ends_at.Tie as tie
 use native.Mathlib.Omega.{arith}
 use Prim.Native.Nat.{ℕ, _+_, _*_, _-_}
 use mathlib.Core.Path.{_≡_, ap, _∙_}

@@ -1,6 +1,6 @@
 use borrow.Author.Needs.{needs}
-use Rattle.unit.proofs.room_row.Statement.{statement}
-use Rattle.unit.proofs.room_row.Tie as tie
+use Rattle.unit.proofs.rows.room_row.Statement.{statement}
+use Rattle.unit.proofs.rows.room_row.Tie as tie
 use native.Mathlib.Omega.{arith}
 use Rattle.lamp.specs.Lamp.{roomRows}
 use Rattle.lamp.proofs.Tried.{none-stops}

@@ -1,6 +1,6 @@
 use borrow.Author.Needs.{needs}
-use Rattle.unit.proofs.name_row.Statement.{statement}
-use Rattle.unit.proofs.name_row.Tie as tie
+use Rattle.unit.proofs.rows.name_row.Statement.{statement}
+use Rattle.unit.proofs.rows.name_row.Tie as tie
 use native.Mathlib.Omega.{arith}
 use Rattle.lamp.specs.Lamp.{nameRows}
 use Rattle.lamp.proofs.Tried.{none-stops}

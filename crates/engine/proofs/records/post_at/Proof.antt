@@ -1,6 +1,6 @@
 use borrow.Author.Needs.{needs}
-use Rattle.engine.proofs.post_at.Statement.{statement}
-use Rattle.engine.proofs.post_at.Tie as tie
+use Rattle.engine.proofs.records.post_at.Statement.{statement}
+use Rattle.engine.proofs.records.post_at.Tie as tie
 use mathlib.Core.Path.{_∙_}
 use Rattle.engine.proofs.Told.{record-is, record-ready}
 
@@ -10,7 +10,8 @@ draw-requires c κs = search needs
 record-at-requires : tie.Need-record-at-requires
 record-at-requires c κs =
     let drawn = c .before .before .before .before .before .before .before .before .before .before .before .before .before .before .before .before .before in
-    let pre = drawn .before .before .before .before .before .before .before .before .before .before .before .before .before .before .before .before .before .before .before .pre in
+    let back = drawn .before .before .before .before .before .before .before .before .before .before in
+    let pre = back .before .before .before .before .before .before .before .before .before .pre in
     let stage = pre .0 in
     let room = record-ready _ _ _ (stage .fitted) _ (stage .least) (stage .most) _ _ _ _ _ _ (drawn .draw .ensures) _ (pre .3) in
     (stage, pre .4, pre .3, room)
@@ -35,8 +36,10 @@ same-length-6 c = search needs
 
 returns : tie.Need-returns
 returns c =
-    let drawn = c .before .before .before .before .before .before .before .before .before .before .before .before .before .before .before .before .before .before in
-    let pre = drawn .before .before .before .before .before .before .before .before .before .before .before .before .before .before .before .before .before .before .before .pre in
+    let back = c .before .before .before .before .before .before .before .before .before .before in
+    let drawn = back .before .before .before .before .before .before .before .before in
+    let back = drawn .before .before .before .before .before .before .before .before .before .before in
+    let pre = back .before .before .before .before .before .before .before .before .before .pre in
     let stage = pre .0 in
     c .record-at .ensures ∙ record-is _ _ _ (stage .fitted) _ (stage .least) (stage .most) _ _ _ _ _ _ (drawn .draw .ensures) _ (pre .4) _ (pre .3)
 

@@ -1,6 +1,6 @@
 use borrow.Author.Needs.{needs}
-use Rattle.engine.proofs.ends_of.Statement.{statement}
-use Rattle.engine.proofs.ends_of.Tie as tie
+use Rattle.engine.proofs.records.ends_of.Statement.{statement}
+use Rattle.engine.proofs.records.ends_of.Tie as tie
 use native.Mathlib.Omega.{arith}
 use Rattle.engine.proofs.Ending.{first-two, two-posts, many-is, kept-run, left-is, right-is}
 

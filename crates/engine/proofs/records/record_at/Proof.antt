@@ -1,6 +1,6 @@
 use borrow.Author.Needs.{needs}
-use Rattle.engine.proofs.record_at.Statement.{statement}
-use Rattle.engine.proofs.record_at.Tie as tie
+use Rattle.engine.proofs.records.record_at.Statement.{statement}
+use Rattle.engine.proofs.records.record_at.Tie as tie
 use native.Mathlib.Omega.{arith}
 use Prim.Native.Nat.{ℕ, _+_}
 use mathlib.Core.Path.{_≡_, ap, sym, _∙_}
