@@ -37,10 +37,10 @@ whole t b e after h q =
 
 -- ---- pieces
 
-six : (n : ℕ) → n < 100000 → length (spaced n) ≤ 6
+pub six : (n : ℕ) → n < 100000 → length (spaced n) ≤ 6
 six n h = omega (arith, five-at-most n h)
 
-refusal-length : (number place : ℕ) → number < 100000 → place < 100000 → length (refusalLine number place) ≤ 20
+pub refusal-length : (number place : ℕ) → number < 100000 → place < 100000 → length (refusalLine number place) ≤ 20
 unfolding refusalLine refusalText
 refusal-length number place h k =
     let a = length-append (letters "refused" ++ (spaced number ++ spaced place)) newline in
@@ -65,11 +65,12 @@ line-length i u x y hi hu hx hy =
     let d = length-append (spaced y) newline in
     omega (arith, a, b, c, d, five-at-most i hi, six u hu, six x hx, six y hy)
 
-lines-length : (k : ℕ) (line : ℕ → List ℕ) → ((i : ℕ) → i < k → length (line (suc i)) ≤ 24) → length (linesTo k line) ≤ 24 * k
+-- lines of at most m bytes each
+pub lines-length : (m k : ℕ) (line : ℕ → List ℕ) → ((i : ℕ) → i < k → length (line (suc i)) ≤ m) → length (linesTo k line) ≤ m * k
 unfolding linesTo
-lines-length zero line h = omega arith
-lines-length (suc k) line h =
-    let rest = lines-length k line (λ i j. h i (omega arith)) in
+lines-length m zero line h = omega arith
+lines-length m (suc k) line h =
+    let rest = lines-length m k line (λ i j. h i (omega arith)) in
     omega (arith, length-append (linesTo k line) (line (suc k)), rest, h k (omega arith))
 
 -- ---- whole texts
@@ -81,7 +82,7 @@ sheet-length s k n e =
     let H = headed s k none in
     let most = at-most s k none in
     let head = head-length (posts s) k (omega (arith, H .most)) (omega (arith, H .most, most)) in
-    let rest = lines-length k (stageLine (order s) (stageAt k s)) (each none) in
+    let rest = lines-length 24 k (stageLine (order s) (stageAt k s)) (each none) in
     omega (arith, length-append (headLine (posts s) k) (linesTo k (stageLine (order s) (stageAt k s))), head, rest, most, H .most)
   where
     each : NoneApplies (checkRows s ++ stageRows k) s → (i : ℕ) → i < k → length (stageLine (order s) (stageAt k s) (suc i)) ≤ 24

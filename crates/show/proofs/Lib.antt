@@ -1,4 +1,5 @@
 pub mod Sheets
+pub mod Fitting
 pub mod Naming
 pub mod Lengths
 pub mod Replying

@@ -73,7 +73,7 @@ module _ (s : List ℕ) (k : ℕ) where
     shows-sheet = rw (given-none s posts rows none) refl
 
     -- so do the rows of a buffer with room for the longest sheet
-    with-room : (b : List ℕ) → length b ≡ 2 * limit → sheetReply s k b ≡ accepted (2 * k)
+    pub with-room : (b : List ℕ) → length b ≡ 2 * limit → sheetReply s k b ≡ accepted (2 * k)
     unfolding sheetReply sheetRows
     with-room b room =
         let H = headed in
@@ -106,6 +106,21 @@ module _ (s : List ℕ) (k : ℕ) where
           let is-place : c ≡ place = cc in
           rw (is-number, is-place) refl
 
+  -- what an accepted call wrote for position i + 1
+  pub entered : (b : List ℕ) (m : ℕ) → sheetReply s k b ≡ accepted m → (i : ℕ) → i < k
+      → (getD (bufferAfter s k b) (2 * i) 0 ≡ stageAt k s .x (getD (order s) i 0))
+      × (getD (bufferAfter s k b) (2 * i + 1) 0 ≡ stageAt k s .y (getD (order s) i 0))
+  entered b m e i h =
+      let vs = order s in
+      let t = stageAt k s in
+      let there : i < length (take k vs) = omega (arith, length-take k vs, order-length s, at-most (none-of b m e)) in
+      let is = written s k b (m, e) in
+      let u : getD (take k vs) i 0 ≡ getD vs i 0 = getD-take k vs i 0 h in
+      let rest = drop (2 * k) b in (
+        rw is (pairs-x (t .x) (t .y) (take k vs) rest i there ∙ ap (t .x) u),
+        rw is (pairs-y (t .x) (t .y) (take k vs) rest i there ∙ ap (t .y) u),
+      )
+
   -- the lines from the entries that an accepted call wrote are the stage's
   pub entered-lines : (b : List ℕ) (m : ℕ) → sheetReply s k b ≡ accepted m
       → linesTo k (entryLine (order s) (bufferAfter s k b)) ≡ linesTo k (stageLine (order s) (stageAt k s))
@@ -113,17 +128,9 @@ module _ (s : List ℕ) (k : ℕ) where
     where
       same : (i : ℕ) → i < k → entryLine (order s) (bufferAfter s k b) (suc i) ≡ stageLine (order s) (stageAt k s) (suc i)
       same i h =
-          let none = none-of b m e in
-          let vs = order s in
-          let t = stageAt k s in
-          let there : i < length (take k vs) = omega (arith, length-take k vs, order-length s, at-most none) in
-          let is = written s k b (m, e) in
-          let u : getD (take k vs) i 0 ≡ getD vs i 0 = getD-take k vs i 0 h in
-          let rest = drop (2 * k) b in
-          let x : getD (bufferAfter s k b) (2 * i) 0 ≡ t .x (getD vs i 0) = rw is (pairs-x (t .x) (t .y) (take k vs) rest i there ∙ ap (t .x) u) in
-          let y : getD (bufferAfter s k b) (2 * i + 1) 0 ≡ t .y (getD vs i 0) = rw is (pairs-y (t .x) (t .y) (take k vs) rest i there ∙ ap (t .y) u) in
+          let at = entered b m e i h in
           let less : suc i - 1 ≡ i = omega arith in
-          rw (less, x, y) refl
+          rw (less, at .0, at .1) refl
 
   -- and so an accepted call's text is made of them
   pub sheet-accepts : (b : List ℕ) (m : ℕ) → sheetReply s k b ≡ accepted m → (n : ℕ) → n ≡ posts s

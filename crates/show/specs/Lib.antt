@@ -1,4 +1,5 @@
 pub mod Shown
+pub mod Fit
 pub mod Entered
 pub mod Replied
 pub mod Why

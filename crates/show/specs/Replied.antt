@@ -25,14 +25,18 @@ spacedAll l = flatMap spaced l
 unfoldable pub sheetReplyLine : List ℕ → ℕ → List ℕ → List ℕ
 sheetReplyLine s k b = answerText (sheetReply s k b) ++ (letters ", buffer" ++ (spacedAll (bufferAfter s k b) ++ newline))
 
--- a record: where the post stands, and how
+-- a record: where the post stands, and how; and between which posts it was fitted
 unfoldable pub standingText : Standing → List ℕ
 standingText Waiting = letters " waiting"
 standingText (OnContour l r) = letters " on the contour between" ++ (spaced l ++ spaced r)
 standingText (Covered b) = letters " covered by" ++ spaced b
 
+abbrev pub endsText : ℕ → ℕ → List ℕ
+endsText l r = letters ", fit between" ++ (spaced l ++ spaced r)
+
 unfoldable pub recordText : Reply Record → List ℕ
-recordText (accepted r) = letters "at" ++ (spaced (r .x) ++ (spaced (r .y) ++ standingText (r .standing)))
+recordText (accepted r) =
+    letters "at" ++ (spaced (r .x) ++ (spaced (r .y) ++ (standingText (r .standing) ++ endsText (r .leftmost) (r .rightmost))))
 recordText (refused number place) = refusalText number place
 
 unfoldable pub postReplyLine : List ℕ → ℕ → ℕ → List ℕ

@@ -1,7 +1,10 @@
 // What the programs print, byte for byte as specs/ defines it, in a lent buffer; and handing it to the kit's write call.
+mod fits;
 mod plain;
 mod replies;
 
+pub use fits::fit;
+pub use fits::print_fit;
 pub use plain::print_why;
 pub use plain::why;
 pub use replies::check;

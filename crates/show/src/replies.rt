@@ -78,7 +78,10 @@ fn placed(r: Record, out: &mut [u8]) -> usize
     let column = text::spaced(out, word, r.x);
     let height = text::spaced(out, column, r.y);
     let s = r.standing;
-    standing(s, out, height)
+    let stands = standing(s, out, height);
+    let fitted = text::say(out, stands, b", fit between");
+    let left = text::spaced(out, fitted, r.leftmost);
+    text::spaced(out, left, r.rightmost)
 }
 
 fn posted(p: Posted, out: &mut [u8]) -> usize
