@@ -2,5 +2,5 @@
 fn main() {
     let mut block = show::no_bytes();
     let n = io::read_full(0, &mut block);
-    show::print_fit(&block[..n]);
+    fits::print_fit(&block[..n]);
 }

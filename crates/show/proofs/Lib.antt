@@ -1,5 +1,4 @@
 pub mod Sheets
-pub mod Fitting
 pub mod Naming
 pub mod Lengths
 pub mod Replying

@@ -1,10 +1,7 @@
 // What the programs print, byte for byte as specs/ defines it, in a lent buffer; and handing it to the kit's write call.
-mod fits;
 mod plain;
 mod replies;
 
-pub use fits::fit;
-pub use fits::print_fit;
 pub use plain::print_why;
 pub use plain::why;
 pub use replies::check;
@@ -37,7 +34,7 @@ pub fn refusal(r: Refusal, out: &mut [u8], at: usize) -> usize
 }
 
 // The same as a line.
-fn refusal_line(r: Refusal, out: &mut [u8], at: usize) -> usize
+pub fn refusal_line(r: Refusal, out: &mut [u8], at: usize) -> usize
     ensures { λ e. ⌜ filling e (now (out .exit)) ≡ write (filling at (now (out .entry))) (refusalLine (numberOf r) (placeOf r)) ⌝ }
 {
     let end = refusal(r, out, at);
@@ -94,7 +91,7 @@ fn whole_sheet(s: &[u8], n: usize, k: usize, b: &[u16], out: &mut [u8]) -> usize
 // The entries of the longest sheet.
 const SHEET: usize = 2 * Block::LIMIT;
 
-fn blank() -> [u16; SHEET]
+pub fn blank() -> [u16; SHEET]
     ensures { λ r. ⌜ 2 * limit ≡ length r ⌝ }
 {
     [0u16; SHEET]

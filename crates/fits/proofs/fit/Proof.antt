@@ -1,10 +1,10 @@
 use borrow.Author.Needs.{needs}
-use Rattle.show.proofs.fits.fit.Statement.{statement}
-use Rattle.show.proofs.fits.fit.Tie as tie
+use Rattle.fits.proofs.fit.Statement.{statement}
+use Rattle.fits.proofs.fit.Tie as tie
 use mathlib.Core.Path.{sym, ap, _∙_}
 use Rattle.lamp.specs.Given.{accepted, replyOf}
 use Rattle.text.proofs.Writing.{fills}
-use Rattle.show.proofs.Fitting.{fit-refuses}
+use Rattle.fits.proofs.Fitting.{fit-refuses}
 
 check-requires : tie.Need-check-requires
 check-requires c κs = search needs

@@ -1,9 +1,9 @@
 use borrow.Author.Needs.{needs}
-use Rattle.show.proofs.fits.fit_line.Statement.{statement}
-use Rattle.show.proofs.fits.fit_line.Tie as tie
+use Rattle.fits.proofs.fit_line.Statement.{statement}
+use Rattle.fits.proofs.fit_line.Tie as tie
 use Rattle.text.specs.Letters.{letters, newline, decimal, spaced}
 use Rattle.text.proofs.Writing.{write-then, put-written}
-use Rattle.show.specs.Fit.{fitLine}
+use Rattle.fits.specs.Fit.{fitLine}
 
 number-requires : tie.Need-number-requires
 number-requires c κs = search needs

@@ -6,13 +6,13 @@ ghost use Rattle.block.specs.Layout.{limit};
 ghost use Rattle.block.specs.Block.{order, Headed};
 ghost use Rattle.lamp.specs.Given.{accepted, checkReply};
 ghost use Rattle.text.specs.Filling.{filling, write, filledWith};
-ghost use Rattle.show.specs.Fit.{fitLine, linesFromThird, fitText, longestFit};
-ghost use Rattle.show.specs.Entered.{fitEntryLine};
-use crate::blank;
-use crate::print;
-use crate::refusal_line;
+ghost use Rattle.fits.specs.Fit.{fitLine, linesFromThird, fitText, longestFit};
+ghost use Rattle.fits.specs.Entered.{fitEntryLine};
 use block::Block;
 use lamp::Answer;
+use show::blank;
+use show::print;
+use show::refusal_line;
 
 // The line of a position.
 fn fit_line(i: u16, u: u16, l: u16, r: u16, x: u16, y: u16, out: &mut [u8], at: usize) -> usize

@@ -1,5 +1,5 @@
-use Rattle.show.proofs.fits.fit_lines.Statement.{statement}
-use Rattle.show.proofs.fits.fit_lines.Tie as tie
+use Rattle.fits.proofs.fit_lines.Statement.{statement}
+use Rattle.fits.proofs.fit_lines.Tie as tie
 use borrow.Author.Needs.{needs}
 use native.Mathlib.Omega.{arith}
 use Prim.Native.Nat.{_+_, _*_, _-_, _≤_}
@@ -7,10 +7,10 @@ use mathlib.Core.Path.{_≡_, sym, ap, _∙_}
 use lib.ListN.{length, getD}
 use Rattle.text.specs.Filling.{Filling, filling, write}
 use Rattle.text.proofs.Writing.{write-none, write-then, write-length}
-use Rattle.show.specs.Fit.{fitLine, linesFromThird}
-use Rattle.show.specs.Entered.{fitEntryLine}
+use Rattle.fits.specs.Fit.{fitLine, linesFromThird}
+use Rattle.fits.specs.Entered.{fitEntryLine}
 use Rattle.show.proofs.Sheets.{lines-none}
-use Rattle.show.proofs.Fitting.{third-more, fit-entry-line}
+use Rattle.fits.proofs.Fitting.{third-more, fit-entry-line}
 
 abbrev Inv-loop : tie.InvT-loop
 Inv-loop vs ends sheet n out₀ at end₀ i₀ out end i =

@@ -1,14 +1,14 @@
 use borrow.Author.Needs.{needs}
-use Rattle.show.proofs.fits.print_fit.Statement.{statement}
-use Rattle.show.proofs.fits.print_fit.Tie as tie
+use Rattle.fits.proofs.print_fit.Statement.{statement}
+use Rattle.fits.proofs.print_fit.Tie as tie
 use native.Mathlib.Omega.{arith}
 use Prim.Native.Nat.{_≤_}
 use mathlib.Core.Path.{_≡_, sym}
 use lib.ListN.{length, take}
 use lib.Seq.{length-take-le}
-use Rattle.show.specs.Fit.{fitText}
+use Rattle.fits.specs.Fit.{fitText}
 use Rattle.show.proofs.Lengths.{whole}
-use Rattle.show.proofs.Fitting.{fit-length}
+use Rattle.fits.proofs.Fitting.{fit-length}
 
 no-fit-text-requires : tie.Need-no-fit-text-requires
 no-fit-text-requires c κs = search needs

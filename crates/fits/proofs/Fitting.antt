@@ -29,11 +29,11 @@ use Rattle.unit.proofs.Demanded.{accepted-sound, third-demand, writes}
 use Rattle.unit.proofs.Written.{pairs-x, pairs-y}
 use Rattle.text.specs.Letters.{letters, newline, decimal, spaced}
 use Rattle.text.proofs.Numerals.{five-at-most}
 use Rattle.show.specs.Shown.{refusalLine, linesTo}
-use Rattle.show.specs.Fit.{fitLine, linesFromThird, recordLine, fitOr, fitText, longestFit}
-use Rattle.show.specs.Entered.{fitEntryLine}
+use Rattle.fits.specs.Fit.{fitLine, linesFromThird, recordLine, fitOr, fitText, longestFit}
+use Rattle.fits.specs.Entered.{fitEntryLine}
 use Rattle.show.proofs.Sheets.{lines-more, lines-same, with-room, entered}
 use Rattle.show.proofs.Lengths.{six, refusal-length, lines-length}
 
 -- ---- line by line
 

@@ -1,6 +1,6 @@
 use borrow.Author.Needs.{needs}
-use Rattle.show.proofs.fits.whole_fit.Statement.{statement}
-use Rattle.show.proofs.fits.whole_fit.Tie as tie
+use Rattle.fits.proofs.whole_fit.Statement.{statement}
+use Rattle.fits.proofs.whole_fit.Tie as tie
 use native.Mathlib.Omega.{arith}
 use mathlib.Core.Path.{_≡_, sym, ap, _∙_}
 use lib.ListN.{length, take}

@@ -1,12 +1,12 @@
 use borrow.Author.Needs.{needs}
-use Rattle.show.proofs.fits.accepted_fit.Statement.{statement}
-use Rattle.show.proofs.fits.accepted_fit.Tie as tie
+use Rattle.fits.proofs.accepted_fit.Statement.{statement}
+use Rattle.fits.proofs.accepted_fit.Tie as tie
 use native.Mathlib.Omega.{arith}
 use mathlib.Core.Path.{sym, ap, _∙_}
 use Rattle.lamp.specs.Given.{replyOf}
 use Rattle.lamp.proofs.Given.{not-both}
 use Rattle.text.proofs.Writing.{fills}
-use Rattle.show.proofs.Fitting.{fit-headed, both-accept, fit-entered}
+use Rattle.fits.proofs.Fitting.{fit-headed, both-accept, fit-entered}
 
 blank-requires : tie.Need-blank-requires
 blank-requires c κs = search needs
