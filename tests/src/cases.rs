@@ -1,4 +1,4 @@
-//! The numbered cases E1 to E16 of docs/RULES.md, each compared and asserted as it
+//! The numbered cases E1 to E17 of docs/RULES.md, each compared and asserted as it
 //! stands there, and the ends of every run of D and of a board worked out by hand.
 
 use crate::board::{d, mend_sum, t, Board};
@@ -30,6 +30,7 @@ pub fn run(tester: &mut Tester) {
     refused_lists(tester);
     stages_and_rooms(tester);
     posts(tester);
+    over_the_end(tester);
     ends(tester);
 }
 
@@ -139,18 +140,46 @@ fn stages_and_rooms(tester: &mut Tester) {
     assert!(tester.sheet(&d, 5, 10).is_ok());
 }
 
+fn record(
+    x: u16,
+    y: u16,
+    standing: Standing,
+    (left, right): (u16, u16),
+) -> Result<Record, Refusal> {
+    let fit = Fit { left, right };
+    Ok(Record {
+        x,
+        y,
+        standing,
+        fit,
+    })
+}
+
+/// Case 17, but for what no C function tells: the ends of board L, where a run goes
+/// over the end of its list.
+fn over_the_end(tester: &mut Tester) {
+    let l = Board {
+        order: vec![0, 1, 2, 3, 4],
+        rings: vec![
+            vec![1, 2, 3, 4],
+            vec![4, 2, 0],
+            vec![0, 1, 4, 3],
+            vec![2, 4, 0],
+            vec![0, 3, 2, 1],
+        ],
+    };
+    let l = l.block();
+    assert_eq!(sum_of(&l), 287);
+    let on = |left, right| Standing::OnContour { left, right };
+    assert_eq!(tester.post(&l, 4, 3), record(2, 2, on(0, 2), (0, 2)));
+    let covered = Standing::Covered { by: 4 };
+    assert_eq!(tester.post(&l, 5, 3), record(3, 2, covered, (0, 2)));
+    assert_eq!(tester.post(&l, 5, 0), record(0, 0, on(0, 4), (0, 0)));
+}
+
 /// Cases 7 and 8.
 fn posts(tester: &mut Tester) {
     let d = d().block();
-    let record = |x, y, standing, (left, right)| {
-        let fit = Fit { left, right };
-        Ok(Record {
-            x,
-            y,
-            standing,
-            fit,
-        })
-    };
     let between = Standing::OnContour { left: 0, right: 1 };
     assert_eq!(tester.post(&d, 3, 2), record(1, 1, between, (0, 1)));
     let covered = Standing::Covered { by: 3 };

@@ -27,7 +27,7 @@ macro_rules! parts {
 
 /// All parts. The longest come first, so that two processes end at about the same time.
 pub const PARTS: &[Part] = parts![
-    "cases", "the cases E1 to E16 of docs/RULES.md": |trial| cases::run(&mut trial.tester);
+    "cases", "the cases E1 to E17 of docs/RULES.md": |trial| cases::run(&mut trial.tester);
     "programs", "what the programs sheet, stage, fit and why print": printed::programs;
     "large", "random boards up to the most posts there can be": right::large_boards;
     "turns", "lists that begin with any entry, and where runs lie in them": turns::turned_lists;

@@ -1,4 +1,4 @@
-// The cases E1 to E16 of docs/RULES.md, each run and printed; and what the bench program prints for T, for the autumn block and for an
+// The cases E1 to E17 of docs/RULES.md, each run and printed but for the calls of ends; and what the bench program prints for T, for the autumn block and for an
 // empty input.
 mod boards;
 mod lists;
@@ -157,6 +157,16 @@ fn programs() {
     show::print_last(&d[..0]);
 }
 
+fn ends() {
+    let l = boards::board_l();
+    show::print(b"17. L, post 3 at stage 4: ");
+    reply_of_post(&l, 4, 3);
+    show::print(b"17. L, post 3 at stage 5: ");
+    reply_of_post(&l, 5, 3);
+    show::print(b"17. L, post 0 at stage 5: ");
+    reply_of_post(&l, 5, 0);
+}
+
 fn main() {
     sheets();
     autumn_block();
@@ -165,5 +175,6 @@ fn main() {
     sums();
     heads();
     list_faults();
+    ends();
     programs();
 }

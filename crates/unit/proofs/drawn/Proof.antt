@@ -49,7 +49,12 @@ sheet-at-requires c κs =
     let entry = asked .before .before .before .before .before .before .before .before .before .before .before .before .before .before .before in
     let stage = entry .pre .0 in
     let fit = within-sheet (entry .args .ask) (entry .args .k) (asked .enum-told .given .1) _ _ (entry .pre .2) in
-    (stage, search needs, search needs, fit)
+    let least = stage .least in (
+      record { fitted = stage .fitted; kept = stage .kept; least = omega (arith, least); most = omega (arith, least, stage .most) },
+      search needs,
+      search needs,
+      omega (arith, least, fit),
+    )
 
 no-record-requires : tie.Need-no-record-requires
 no-record-requires c κs = search needs
@@ -62,7 +67,11 @@ ends-at-requires c κs =
     let asked = c .before in
     let entry = asked .before .before .before .before .before .before .before .before .before .before .before .before .before .before .before in
     let fit = within-ends (entry .args .ask) (entry .args .k) (asked .enum-told2 .given .1) _ _ (entry .pre .2) in
-    (entry .pre .0, fit)
+    let stage = entry .pre .0 in
+    let least = stage .least in (
+      record { fitted = stage .fitted; kept = stage .kept; least = omega (arith, least); most = omega (arith, least, stage .most) },
+      omega (arith, least, fit),
+    )
 
 no-record-requires-2 : tie.Need-no-record-requires-2
 no-record-requires-2 c κs = search needs
