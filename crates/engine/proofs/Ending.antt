@@ -1,10 +1,10 @@
 -- A run read from what check kept: its first post, its length, and its ends as the record tells them.
-use Prim.Native.Nat.{ℕ, suc, _+_, _-_, _≤_, _<_}
-use mathlib.Core.Path.{_≡_, refl, ap, sym, _∙_}
+use Prim.Native.Nat.{ℕ, suc, _-_, _≤_, _<_}
+use mathlib.Core.Path.{_≡_, ap, sym, _∙_}
 use mathlib.Core.List.{List}
 use native.Mathlib.Omega.{arith}
 use lib.ListN.{length, getD, take}
-use Rattle.words.specs.Lists.{In, lastOf}
+use Rattle.words.specs.Lists.{In}
 use Rattle.words.specs.Positions.{post, earlier}
 use Rattle.words.proofs.Lists.{last-at}
 use Rattle.words.proofs.Tests.{place-in}

@@ -7,7 +7,6 @@ ghost use mathlib.Core.Path.{_≡_};
 ghost use mathlib.Core.List.{_++_};
 ghost use Prim.Native.Nat.{_+_, _*_, _≤_, _<_};
 ghost use lib.ListN.{length, take, drop};
-ghost use Rattle.words.specs.Positions.{post};
 ghost use Rattle.order.specs.Fitted.{Fitted, RunsHeld, Reachable};
 ghost use Rattle.rings.specs.Held.{held};
 ghost use Rattle.placing.specs.Stages.{third, stage};

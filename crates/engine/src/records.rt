@@ -1,7 +1,7 @@
 // What is told of a stage: the record of a post, and the ends of runs, from what check kept.
 ghost use mathlib.Core.Path.{_≡_};
 ghost use mathlib.Core.List.{_++_};
-ghost use Prim.Native.Nat.{_+_, _*_, _≤_, _<_};
+ghost use Prim.Native.Nat.{_*_, _≤_, _<_};
 ghost use lib.ListN.{length, take, drop};
 ghost use Rattle.words.specs.Positions.{post};
 ghost use Rattle.order.specs.Fitted.{Fitted, RunsHeld, Reachable};

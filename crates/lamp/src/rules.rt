@@ -68,7 +68,7 @@ pub fn board(s: &[u8], vs: &[u16], at: &[u16], ents: &[u16]) -> Answer
     outer_of(s, vs, at, ents)
 }
 
-// The rule at position k, which is answered where none applies; the run that is found there is kept.
+// The rule at position k. Where no row applies, k is answered, and the run that is found there is kept.
 fn position(
     s: &[u8],
     vs: &[u16],

@@ -5,8 +5,7 @@ use mathlib.Core.Bool.{true, not}
 use mathlib.Core.List.{List, [], _∷_, _++_, append-assoc, append-nil}
 use Prim.Native.Nat.{ℕ, suc, _+_, _<_}
 use native.Mathlib.Omega.{arith}
-use native.Mathlib.Decide.{decLt}
-use lib.Dec.{T, eqb, eqb→eq, eqb-refl, T-not, not-T}
+use lib.Dec.{T, eqb, not-T}
 use lib.ListN.{length, getD, take, drop, length-drop, take-append-drop, List·getD-append}
 use lib.Seq.{drop-cons, getD-drop}
 use Rattle.words.specs.First.{first}
@@ -14,13 +13,12 @@ use Rattle.words.specs.Lists.{In, mem, allOf, count, Adj}
 use Rattle.words.specs.Positions.{post}
 use Rattle.words.proofs.First.{some-found, first-found, first-same}
 use Rattle.words.proofs.Lists.{Once, in-cases, adj-in-right}
-use Rattle.words.proofs.Tests.{holds, is-true, both, either, or-left, or-right, mem-in, in-mem, all-says, says-all, place-in, count-append}
+use Rattle.words.proofs.Tests.{holds, is-true, or-left, mem-in, in-mem, all-says, says-all, count-append}
 use Rattle.words.proofs.Tests.{count-none, count-all, once-different}
 use Rattle.rings.specs.Rings.{ring, around}
 use Rattle.rings.proofs.Around.{around-turn, around-in}
-use Rattle.rings.proofs.Places.{placeAfter, after-inside, after-end, place-around}
 use Rattle.order.specs.Order.{from, lead, rest, leads, oneRun, begins, runBegin, run}
-use Rattle.order.proofs.Tests.{lead-rest, lead-placed, lead-all, leads-says, says-leads, from-out, begins-says, says-begins}
+use Rattle.order.proofs.Tests.{lead-rest, lead-placed, leads-says, says-leads, from-out, begins-says, says-begins}
 
 -- ---- how long the run is
 module _ (placed : List ℕ) where

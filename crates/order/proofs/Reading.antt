@@ -5,14 +5,13 @@ use mathlib.Core.List.{List, _++_}
 use native.Mathlib.Omega.{arith}
 use lib.ListN.{length, getD, take, drop, length-append, length-drop, take-append-drop, List·getD-append}
 use lib.Seq.{slice, length-slice, take-at, getD-take, getD-drop, getD-append-add}
-use Rattle.words.specs.Lists.{In}
 use Rattle.words.specs.Positions.{post, earlier}
 use Rattle.words.proofs.First.{first-is}
 use Rattle.rings.specs.Rings.{ring}
 use Rattle.rings.specs.Held.{held}
 use Rattle.rings.proofs.Held.{held-length, held-part}
 use Rattle.rings.proofs.Turns.{part-at}
-use Rattle.order.specs.Order.{from, lead, rest, begins, runBegin, run}
+use Rattle.order.specs.Order.{from, rest, begins, runBegin, run}
 use Rattle.order.specs.Fitted.{RunKept}
 use Rattle.order.proofs.Tests.{lead-rest}
 

@@ -5,14 +5,12 @@ use mathlib.Core.List.{List, [], _∷_, _++_, append-assoc, append-nil}
 use Prim.Native.Nat.{ℕ, _+_, _≤_, _<_}
 use native.Mathlib.Omega.{arith}
 use lib.Dec.{T, T-not, not-T}
-use lib.ListN.{length, getD, take, drop, length-append, take-append-drop}
-use lib.Seq.{drop-at}
+use lib.ListN.{length, take, drop, length-append, take-append-drop}
 use Rattle.words.specs.Lists.{mem, anyOf}
 use Rattle.words.proofs.First.{some-true, some-found}
 use Rattle.words.proofs.Tests.{holds, is-true, either}
 use Rattle.rings.specs.Rings.{ring, around}
 use Rattle.rings.proofs.Around.{around-cut}
-use Rattle.rings.proofs.Places.{placeAfter}
 use Rattle.order.specs.Order.{from, rest, leads, oneRun}
 use Rattle.order.proofs.Tests.{from-at, from-start}
 

@@ -1,10 +1,10 @@
 -- How running code holds an order, and what it finds in a ring.
 use Prim.Native.Nat.{ℕ, _-_, _≤_, _<_}
 use mathlib.Core.Path.{_≡_}
-use mathlib.Core.Bool.{Bool, true, not, cond, _&&_}
-use mathlib.Core.List.{List, [], _∷_}
+use mathlib.Core.Bool.{true, cond}
+use mathlib.Core.List.{List}
 use lib.ListN.{length, getD}
-use Rattle.words.specs.Lists.{In, mem}
+use Rattle.words.specs.Lists.{In}
 use Rattle.words.specs.Positions.{post, earlier}
 use Rattle.rings.specs.Rings.{ringRule}
 use Rattle.rings.specs.Held.{held, Cuts}
@@ -25,12 +25,6 @@ Ranked vs rank = RankedBelow (length vs) vs rank
 -- the entries from b to e are names below n
 abbrev pub NamesBelow : List ℕ → ℕ → ℕ → ℕ → Type 0
 NamesBelow ents b e n = (i : ℕ) → b ≤ i → i < e → getD ents i 0 < n
-
--- names whose positions are known
-pub record RankedEntries (ents : List ℕ) (b e : ℕ) (vs rank : List ℕ) : Type 0 where
-  pub n : ℕ
-  pub names : NamesBelow ents b e n
-  pub ranked : RankedBelow n vs rank
 
 -- rings that keep the ring rule, and a list of posts with the positions by name
 pub record Listed (at ents vs rank : List ℕ) : Type 0 where

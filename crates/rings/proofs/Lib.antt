@@ -3,6 +3,5 @@ pub mod Turns
 pub mod Held
 pub mod Faults
 pub mod Around
-pub mod Places
 pub mod Says
 pub mod Read

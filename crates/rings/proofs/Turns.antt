@@ -124,13 +124,6 @@ module _ (l : List ℕ) (b e i : ℕ) (h : b ≤ i) (k : i < e) (m : e ≤ lengt
   turn : i + 1 - b ≡ i - b + 1
   turn = omega arith
 
-  -- what is left at place i begins with this entry and the next, what is left after it with the next
-  pub pair-here : drop (i - b) A ≡ getD A (i - b) 0 ∷ getD A (i - b + 1) 0 ∷ drop (suc (suc (i - b))) A
-  pair-here = two A (i - b) (long (slice b e l) (i - b) (omega (arith, length-slice b e l m)))
-
-  pub pair-next : drop (i + 1 - b) A ≡ getD A (i - b + 1) 0 ∷ drop (suc (suc (i - b))) A
-  pair-next = rw turn (onward (slice b e l) (i - b) (omega (arith, length-slice b e l m)))
-
   pub next-turn : (a c : ℕ) → next a c (drop (i - b) A)
       ≡ ((eqb (getD A (i - b) 0) a && eqb (getD A (i - b + 1) 0) c) || next a c (drop (i + 1 - b) A))
   next-turn a c = rw turn (next-step (slice b e l) (i - b) (omega (arith, length-slice b e l m)) a c)

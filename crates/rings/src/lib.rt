@@ -90,7 +90,7 @@ pub fn first_bad_ring(ents: &[u16], at: &[u16]) -> ListFault
 }
 
 // The entry after place i, of a list from b to e that is read around.
-pub fn after(ents: &[u16], b: usize, e: usize, i: usize) -> u16
+fn after(ents: &[u16], b: usize, e: usize, i: usize) -> u16
     requires { ⌜ (b ≤ i) × (i < e) × (e ≤ length (now ents)) ⌝ }
     ensures { λ r. ⌜ r ≡ getD (around (slice b e (now (ents .entry)))) (i - b + 1) 0 ⌝ }
 {

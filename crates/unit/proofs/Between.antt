@@ -1,26 +1,23 @@
 -- What is told of runs is so, and each post stands between the ends of its run: by records, by sheets, and by the ends that are listed.
-use Prim.Native.Nat.{ℕ, suc, _+_, _*_, _-_, _≤_, _<_}
+use Prim.Native.Nat.{ℕ, _+_, _*_, _-_, _≤_, _<_}
 use mathlib.Core.Path.{_≡_, refl, sym, ap, _∙_, subst}
-use mathlib.Core.Logic.{_⊎_, inl, inr, _↔_}
+use mathlib.Core.Logic.{_⊎_, inl, inr}
 use mathlib.Core.List.{List, _++_}
 use native.Mathlib.Omega.{arith}
 use lib.ListN.{length, getD, take, drop, length-take}
 use lib.Seq.{getD-take}
 use Rattle.words.specs.Lists.{In, lastOf}
-use Rattle.words.specs.Positions.{post, earlier, Earlier}
+use Rattle.words.specs.Positions.{post, earlier}
 use Rattle.words.proofs.Positions.{in-take, take-in, in-earlier, earlier-in}
 use Rattle.block.specs.Block.{posts, order, lists}
-use Rattle.rings.specs.Rings.{ring}
-use Rattle.rings.specs.Plane.{Wire}
 use Rattle.rings.proofs.Says.{entry-returned}
-use Rattle.order.specs.Order.{from, lead, runBegin, run}
+use Rattle.order.specs.Order.{from, run}
 use Rattle.order.specs.Ranked.{fitOf}
 use Rattle.order.specs.declared.Fit.the-variants.{Good}
 use Rattle.order.proofs.Tests.{lead-placed}
 use Rattle.order.proofs.Growth.{run-near}
 use Rattle.order.proofs.Fitting.{fits-faces}
 use Rattle.order.proofs.Reading.{run-read, run-inside}
-use Rattle.placing.specs.Stages.{Stage, stage}
 use Rattle.placing.specs.Records.{standing, fitLeft, fitRight, recordOf, endsOf}
 use Rattle.placing.specs.declared.Record.{Record}
 use Rattle.placing.proofs.Steps.{stage-placed}

@@ -7,7 +7,7 @@ use native.Mathlib.Omega.{arith}
 use lib.ListN.{length, getD, take, drop, length-take}
 use lib.Seq.{getD-take}
 use Rattle.words.specs.Lists.{In}
-use Rattle.words.specs.Positions.{post, positionOf}
+use Rattle.words.specs.Positions.{positionOf}
 use Rattle.words.proofs.Positions.{in-take, take-in, position-is}
 use Rattle.block.specs.Block.{posts, order, lists}
 use Rattle.rings.specs.Plane.{Wire}

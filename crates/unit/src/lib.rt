@@ -4,7 +4,6 @@ ghost use mathlib.Core.Path.{_≡_};
 ghost use Prim.Native.Nat.{_+_, _≤_};
 ghost use lib.ListN.{length, take};
 ghost use Rattle.block.specs.Layout.{limit, entries};
-ghost use Rattle.block.specs.Block.{posts};
 ghost use Rattle.rings.specs.Held.{held};
 ghost use Rattle.order.specs.Fitted.{Reachable};
 ghost use Rattle.order.specs.Ranked.{RankedBelow};

@@ -2,11 +2,9 @@ use borrow.Author.Needs.{needs}
 use Rattle.order.proofs.pass_over.Statement.{statement}
 use Rattle.order.proofs.pass_over.Tie as tie
 use native.Mathlib.Omega.{arith}
-use native.Mathlib.Numerals.{add-one}
 use Prim.Native.Nat.{ℕ, suc, _≤_, _+_, _-_}
-use mathlib.Core.Path.{_≡_, refl, ap, sym, _∙_}
+use mathlib.Core.Path.{_≡_, ap, sym, _∙_}
 use mathlib.Core.Bool.{Bool, cond}
-use lib.ListN.{getD}
 use lib.Seq.{slice}
 use Rattle.words.specs.Lists.{count}
 use Rattle.rings.proofs.Turns.{count-step, count-end}
