@@ -1,9 +1,9 @@
-// The blocks of the cases E1 to E11 and E17, byte by byte: the very ones that the table of starred cases speaks of (lists.rt has those of E12 to
-// E16).
+// The blocks of the cases E1 to E11, byte by byte: the very ones that the table of starred cases speaks of (lists.rt has those of E12 to E16,
+// over.rt that of E17).
 ghost use mathlib.Core.Path.{_≡_};
 ghost use mathlib.Core.List.{[], _∷_};
 ghost use Rattle.rings.specs.Boards.{orderD};
-ghost use Rattle.unit.specs.Starred.{T, D, L};
+ghost use Rattle.unit.specs.Starred.{T, D};
 
 // Board T, sum 236.
 pub fn board_t() -> [u8; 33]
@@ -262,78 +262,5 @@ pub fn twice() -> [u8; 65]
         1,
         1,
         28,
-    ]
-}
-
-// Board L, sum 287.
-pub fn board_l() -> [u8; 65]
-    ensures { λ r. ⌜ r ≡ L 287 ⌝ }
-{
-    [
-        80,
-        71,
-        66,
-        0,
-        1,
-        0,
-        5,
-        0,
-        0,
-        0,
-        1,
-        0,
-        2,
-        0,
-        3,
-        0,
-        4,
-        0,
-        4,
-        0,
-        3,
-        0,
-        4,
-        0,
-        3,
-        0,
-        4,
-        0,
-        1,
-        0,
-        2,
-        0,
-        3,
-        0,
-        4,
-        0,
-        4,
-        0,
-        2,
-        0,
-        0,
-        0,
-        0,
-        0,
-        1,
-        0,
-        4,
-        0,
-        3,
-        0,
-        2,
-        0,
-        4,
-        0,
-        0,
-        0,
-        0,
-        0,
-        3,
-        0,
-        2,
-        0,
-        1,
-        1,
-        31,
     ]
 }

@@ -2,6 +2,7 @@
 // autumn block and for an empty input.
 mod boards;
 mod lists;
+mod over;
 
 ghost use mathlib.Core.Path.{_≡_};
 ghost use lib.ListN.{length};
@@ -158,7 +159,7 @@ fn programs() {
 }
 
 fn ends() {
-    let l = boards::board_l();
+    let l = over::board_l();
     show::print(b"17. L, post 3 at stage 4: ");
     reply_of_post(&l, 4, 3);
     show::print(b"17. L, post 3 at stage 5: ");

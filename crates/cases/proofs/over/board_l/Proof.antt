@@ -1,5 +1,5 @@
-use Rattle.cases.proofs.boards.board_l.Statement.{statement}
-use Rattle.cases.proofs.boards.board_l.Tie as tie
+use Rattle.cases.proofs.over.board_l.Statement.{statement}
+use Rattle.cases.proofs.over.board_l.Tie as tie
 use mathlib.Core.Path.{refl}
 use mathlib.Core.List.{flatMap, flatten}
 use Rattle.unit.specs.Starred.{bytes, blockOf, L}
