@@ -1,4 +1,6 @@
 // The block: its layout from n, and what steps 1 to 8 look at in its header, its order and its degrees.
+#![tactic(auto)]
+
 ghost use Rattle.std.specs.Prelude.{◌≡◌, false, ℕ, ◌+◌, ◌*◌, ◌-◌, ◌≤◌, ◌<◌, length, get_or, take};
 ghost use Rattle.words.specs.First.{first};
 ghost use Rattle.words.specs.Numbers.{sum_of};

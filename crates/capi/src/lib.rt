@@ -1,4 +1,6 @@
 // The services as C functions, for firmware and for tests: include/pgb.h declares them.
+#![tactic(auto)]
+
 ghost use Rattle.std.specs.Prelude.{◌≡◌};
 ghost use Rattle.lamp.specs.Given.{accepted, refused, reply_of};
 ghost use Rattle.lamp.specs.Refusals.{number_of, place_of};

@@ -1,5 +1,7 @@
 // The cases E1 to E17 of docs/RULES.md, each run and printed but for the calls of ends; and what the bench program prints for T, for the
 // autumn block and for an empty input.
+#![tactic(auto)]
+
 mod boards;
 mod lists;
 mod over;

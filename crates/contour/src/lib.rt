@@ -1,4 +1,6 @@
 // The linked contour, in arrays by name: placing a post over its run, and reading the columns. Nothing here knows what a stage is.
+#![tactic(auto)]
+
 ghost use Rattle.std.specs.Prelude.{◌≡◌, ◌+◌, ◌-◌, ◌/◌, ◌≤◌, ◌<◌, length, get_or, set};
 ghost use Rattle.block.specs.Layout.{bias};
 ghost use Rattle.contour.specs.Columns.{until, laid, column_of, settled, ColumnFits, Settles, Rooms, Line};

@@ -1,4 +1,6 @@
 // Reaching a stage of a list of posts that fits so far, in linear time: differences are kept, and no post is moved.
+#![tactic(auto)]
+
 mod records;
 
 ghost use Rattle.std.specs.Prelude.{◌≡◌, ◌++◌, ◌+◌, ◌*◌, ◌≤◌, ◌<◌, length, take, drop};

@@ -1,4 +1,6 @@
 // What `fit` prints: for each position from 3 on, between which posts its post was fitted, and where it stands on the last sheet.
+#![tactic(auto)]
+
 ghost use Rattle.std.specs.Prelude.{◌≡◌, ◌*◌, ◌≤◌, length};
 ghost use Rattle.block.specs.Layout.{limit};
 ghost use Rattle.block.specs.Block.{order, Headed};

@@ -1,5 +1,7 @@
 // The lamp: the refusals with their numbers and places, and the steps of check, tried in the table's order over lent arrays. Each group of rows
 // is one function's.
+#![tactic(auto)]
+
 ghost use Rattle.std.specs.Prelude.{◌≡◌, ◌++◌, ◌≤◌, length, take};
 ghost use Rattle.block.specs.Layout.{limit};
 ghost use Rattle.block.specs.Block.{posts, order, degrees, Headed};

@@ -1,4 +1,6 @@
 // The order of fitting: the position of each name, the rule at each position (steps 12 and 13), and the run that it finds there.
+#![tactic(auto)]
+
 ghost use Rattle.std.specs.Prelude.{◌≡◌, false, not, cond, ◌&&◌, ℕ, ◌+◌, ◌-◌, ◌≤◌, ◌<◌, ltb, eqb, length, get_or};
 ghost use Rattle.std.proofs.Math.Seq.{slice};
 ghost use Rattle.words.specs.First.{first};

@@ -1,4 +1,6 @@
 // What is told of a stage: a post's record, and the sheet's entries. specs/ has the stages themselves.
+#![tactic(auto)]
+
 ghost use Rattle.std.specs.Prelude.{◌≡◌, ◌++◌, ℕ, ◌*◌, ◌≤◌, ◌<◌, length, get_or, take, drop};
 ghost use Rattle.block.specs.Layout.{limit};
 ghost use Rattle.placing.specs.Pairs.{pairs};

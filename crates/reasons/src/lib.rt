@@ -1,4 +1,6 @@
 // What each refusal means, in plain words, byte for byte as specs/ defines it, in a lent buffer.
+#![tactic(auto)]
+
 ghost use Rattle.std.specs.Prelude.{◌≡◌, ◌≤◌};
 ghost use Rattle.text.specs.Letters.{numbered};
 ghost use Rattle.text.specs.Filling.{filling, write};

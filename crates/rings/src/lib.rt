@@ -1,5 +1,7 @@
 // Rings: a post's neighbours counter-clockwise, read around; ring rule, triangle rule and outer triangle (steps 9 to 11). All entries stand one
 // after the other in `ents`; the list of u goes from at[u] to at[u + 1].
+#![tactic(auto)]
+
 ghost use Rattle.std.specs.Prelude.{◌≡◌, true, false, not, ◌&&◌, ◌+◌, ◌-◌, ◌≤◌, ◌<◌, eqb, length, get_or, take};
 ghost use Rattle.std.proofs.Math.Seq.{slice};
 ghost use Rattle.words.specs.First.{first};

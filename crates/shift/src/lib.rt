@@ -1,1 +1,3 @@
 // The shift method keeps its triangles: laws, no running code.
+#![tactic(auto)]
+

@@ -1,4 +1,6 @@
 // What the programs print, byte for byte as specs/ defines it, in a lent buffer; and handing it to the kit's write call.
+#![tactic(auto)]
+
 mod plain;
 mod replies;
 

@@ -1,4 +1,6 @@
 // Reads standard input as one block and prints the stage that the argument names, or the refusal. An argument that is no number needs no block.
+#![tactic(auto)]
+
 use text::Word;
 
 fn main() {

@@ -1,4 +1,6 @@
 // Text in a lent buffer, byte for byte as specs/ defines it, and the number that a word says. What finds no room in the buffer is left out.
+#![tactic(auto)]
+
 ghost use Rattle.std.specs.Prelude.{◌≡◌, ◌+◌, ◌*◌, ◌-◌, ◌≤◌, ◌<◌, min};
 ghost use Rattle.text.specs.Letters.{decimal, spaced as Letters·spaced, numeral as Letters·numeral, numbered as Letters·numbered};
 ghost use Rattle.text.specs.Said.{said_up_to};

@@ -1,5 +1,7 @@
 // The unit: its three services, and the ends of runs for those who print them. specs/ has their replies and the three demands; the refusals and
 // the table are lamp's.
+#![tactic(auto)]
+
 ghost use Rattle.std.specs.Prelude.{◌≡◌, ◌+◌, ◌≤◌, length, take};
 ghost use Rattle.block.specs.Layout.{limit, entries};
 ghost use Rattle.rings.specs.Held.{held};

@@ -56,8 +56,10 @@ module _ (E : ℕ → ℕ → Type 0) (trans : (a b c : ℕ) → E a b → E b c
   pub chain_from : (a : ℕ) (l : List ℕ) → Chain E (a ∷ l) → (b : ℕ) → In b l → E a b
   chain_from a (m ∷ l) c b (inl e) = rw e c.0
   chain_from a (m ∷ l) c b (inr i) = trans a m b c.0 (chain_from m l c.1 b i)
+  chain_from a [] c b x'' = elim x'' [ ]
 
   pub chain_last : (l : List ℕ) (q : ℕ) → Chain E (l ++ q ∷ []) → (a : ℕ) → In a l → E a q
   chain_last (m ∷ l) q c a (inl e) = rw e (chain_from m (l ++ q ∷ []) c q (in_right q l (q ∷ []) (inl refl)))
   chain_last (m ∷ []) q c a (inr i) = absurd i
   chain_last (m ∷ n ∷ l) q c a (inr i) = chain_last (n ∷ l) q c.1 a i
+  chain_last [] q c a x'' = elim x'' [ ]

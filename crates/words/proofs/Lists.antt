@@ -259,4 +259,4 @@ first_alone (x ∷ X) p Z o h = absurd (o.0 (in_right x X (p ∷ Z) (inl h)))
 
 pub last_alone : (x : ℕ) (X : List ℕ) (q : ℕ) (Y : List ℕ) → Once (X ++ q ∷ Y) → last_of x (X ++ q ∷ Y) ≡ q → Y ≡ []
 last_alone x X q [] o h = refl
-last_alone x X q (y ∷ Y) o h = absurd ((once_drop X (q ∷ y ∷ Y) o).0 (rw (sym h ∙ last_append x X q (y ∷ Y)) (last_in y Y)))
+last_alone x X q (y ∷ Y) o h = absurd ((once_drop X (q ∷ y ∷ Y) o).0 (subst (λ z. In z (y ∷ Y)) (sym (sym h ∙ last_append x X q (y ∷ Y))) (last_in y Y)))

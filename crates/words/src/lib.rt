@@ -1,4 +1,6 @@
 // Numbers in bytes: 16-bit, high byte first, and the wrapped sum. specs/ defines them, and lists of names, and "the first one that".
+#![tactic(auto)]
+
 ghost use Rattle.std.specs.Prelude.{◌≡◌, ◌+◌, ◌*◌, ◌<◌, ◌≤◌, length, take};
 ghost use Rattle.words.specs.Numbers.{word_at, words_at, wrapped};
 
