@@ -28,8 +28,10 @@ impl Block {
 
     // These constants are the definitions' numbers.
     pub fn limits()
-        ensures* fact { do ⌜ ((← (⟦Block::LIMIT⟧).entry) ≡ limit) × ((← (⟦Block::ENTRIES⟧).entry) ≡ entries limit) ⌝ }
-        ensures* fact_2 { do ⌜ ((← (⟦Block::LONGEST⟧).entry) ≡ size limit) × ((← (⟦Block::BIAS⟧).entry) ≡ bias) ⌝ }
+        ensures posts { Block.LIMIT ≡ limit }
+        ensures most_entries { Block.ENTRIES ≡ entries limit }
+        ensures longest { Block.LONGEST ≡ size limit }
+        ensures added { Block.BIAS ≡ bias }
     {}
 
     pub const VERSION_AT: usize = 3;
