@@ -8,7 +8,7 @@ ghost use Rattle.block.specs.Layout.{limit, bias, degrees_at, lists_at, entries,
 ghost use Rattle.block.specs.Block.{order, degrees, Headed, marked, bad_entry, bad_degree};
 
 // A block's number of posts, which fixes where its parts begin.
-#[derive(Drop)]
+#[derive(Clone, Copy)]
 pub struct Block {
     pub n: usize,
 }

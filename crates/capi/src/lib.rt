@@ -12,7 +12,7 @@ use unit::Posted;
 
 // A post's reply: acceptance is 0, and the record's numbers stand beside it; a refusal has zeros there.
 #[repr(C)]
-#[derive(Drop)]
+#[derive(Clone, Copy)]
 pub struct PostReply {
     pub reply: u32,
     pub x: u16,

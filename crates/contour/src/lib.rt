@@ -38,7 +38,7 @@ fn put_pair(s: &mut [u16], a: u16, x: u16, b: u16, y: u16)
 }
 
 // The post m places right of p on the contour, and the sum of the offsets on the way.
-#[derive(Drop)]
+#[derive(Clone, Copy)]
 pub struct Span {
     pub end: u16,
     pub sum: u16,
@@ -85,7 +85,7 @@ fn hang(right: &[u16], off: &mut [u16], cover: &mut [u16], first: u16, m: usize,
 
 // Where a post over a run goes: the run's last post, how far that stands from the first once it has moved, the new post's offset from the first,
 // and its height.
-#[derive(Drop)]
+#[derive(Clone, Copy)]
 pub struct Spot {
     pub end: u16,
     pub far: u16,

@@ -13,7 +13,7 @@ use crate::draw;
 use placing::{Record, Standing};
 
 // The ends of a run, by name.
-#[derive(Drop)]
+#[derive(Clone, Copy)]
 struct Ends {
     left: u16,
     right: u16,

@@ -16,7 +16,7 @@ mod rules;
 use block::Block;
 
 // Why a call is refused, with the place where there is one: a position, or a name.
-#[derive(Drop)]
+#[derive(Clone, Copy)]
 pub enum Refusal {
     Short,
     Mark,
@@ -40,7 +40,7 @@ pub enum Refusal {
 }
 
 // A refusal as it is told: its number, and its place: a position, a name, or 0.
-#[derive(Drop)]
+#[derive(Clone, Copy)]
 pub struct Told {
     pub number: u16,
     pub place: u16,
@@ -82,7 +82,7 @@ impl Refusal {
 }
 
 // A reply: the number of posts from check, the count of entries from sheet; or the refusal.
-#[derive(Drop)]
+#[derive(Clone, Copy)]
 pub enum Answer {
     Accepted(u16),
     Refused(Refusal),

@@ -16,7 +16,7 @@ ghost use Rattle.order.specs.Ranked.{NamesBelow, Ranked, Listed, fit_of};
 
 // What the order's rule finds in a position: one run of earlier neighbours, with the place in the ring where it begins and its length; fewer than
 // two earlier neighbours; or they aren't one run.
-#[derive(Drop)]
+#[derive(Clone, Copy)]
 pub enum Fit {
     Good(u16, u16),
     Few,
@@ -79,7 +79,7 @@ fn ends_before(ents: &[u16], b: usize, e: usize, rank: &[u16], k: usize) -> bool
 }
 
 // What a pass over a ring finds: how many entries stand in positions before k, how many runs of them begin, and where the last of these begins.
-#[derive(Drop)]
+#[derive(Clone, Copy)]
 struct Seen {
     many: usize,
     runs: usize,

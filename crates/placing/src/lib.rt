@@ -7,7 +7,7 @@ ghost use Rattle.placing.specs.Pairs.{pairs};
 
 // How a post stands at a stage: not placed yet; on the contour, between its left and its right neighbour there; or covered, by the post whose
 // placing covered it. Posts are told by name.
-#[derive(Drop)]
+#[derive(Clone, Copy)]
 pub enum Standing {
     Waiting,
     OnContour(u16, u16),
@@ -16,7 +16,7 @@ pub enum Standing {
 
 // A post's record at a stage. A placed post was fitted between its leftmost and its rightmost neighbour of those placed before it; v1, v2 and a
 // post that waits carry their own names there.
-#[derive(Drop)]
+#[derive(Clone, Copy)]
 pub struct Record {
     pub x: u16,
     pub y: u16,

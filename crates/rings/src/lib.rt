@@ -15,7 +15,7 @@ ghost use Rattle.rings.specs.Held.{held, Cuts};
 
 // What is at fault with the lists: nothing; or the first bad entry in the list of this name, the lowest with one: it is no post's name, is the post
 // itself, repeats an entry before it, or is a post whose own list does not have this one.
-#[derive(Drop)]
+#[derive(Clone, Copy)]
 pub enum ListFault {
     Sound,
     High(u16),

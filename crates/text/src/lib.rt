@@ -71,7 +71,7 @@ pub fn numbered(out: &mut [u8], at: usize, t: &[u8], x: u16) -> usize
 }
 
 // What a word is: a number or something else.
-#[derive(Drop)]
+#[derive(Clone, Copy)]
 pub enum Word {
     Number(usize),
     Other,

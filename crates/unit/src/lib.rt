@@ -49,7 +49,7 @@ pub fn check(s: &[u8]) -> Answer
 }
 
 // What is asked of a stage: its sheet, the ends of its posts' runs, or the record of a post.
-#[derive(Drop)]
+#[derive(Clone, Copy)]
 enum Ask {
     Sheet,
     Ends,
@@ -57,7 +57,7 @@ enum Ask {
 }
 
 // What is answered: the count of entries or the refusal, and the record where one is asked for.
-#[derive(Drop)]
+#[derive(Clone, Copy)]
 struct Served {
     answer: Answer,
     found: Record,
@@ -213,7 +213,7 @@ pub fn ends(s: &[u8], k: usize, buffer: &mut [u16]) -> Answer
 }
 
 // post's reply: the post's record, or the refusal.
-#[derive(Drop)]
+#[derive(Clone, Copy)]
 pub enum Posted {
     Accepted(Record),
     Refused(Refusal),
