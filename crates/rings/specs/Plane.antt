@@ -1,5 +1,5 @@
 -- Plane and triangulated, said by quantifiers: what the lists must be, whatever the unit tests.
-use Rattle.std.specs.Prelude.{ℕ, ◌+◌, ◌*◌, ◌-◌, ◌<◌, ◌≡◌, ◌⊎◌, ◌≢◌, List, ◌∷◌, ◌++◌, map, length}
+use Rattle.std.specs.Prelude.{ℕ, ◌*◌, ◌-◌, ◌<◌, ◌≡◌, ◌⊎◌, ◌≢◌, List, ◌∷◌, ◌++◌, map, length}
 use Rattle.words.specs.Numbers.{sum_of}
 use Rattle.words.specs.Lists.{In, Different}
 use Rattle.rings.specs.Rings.{ring, around}
