@@ -52,10 +52,14 @@ module _ (F : ℕ → ℕ → ℕ → Type 0) (v1 v2 vn : ℕ) (R : Rings F) (ou
   start_edge a b c (inl ea) (inr (inl eb)) f = inr (inl (sym ea, sym eb))
   start_edge a b c (inr (inl ea)) (inl eb) f = inl (sym ea, sym eb)
   start_edge a b c (inr (inl ea)) (inr (inl eb)) f = absurd (R.self v2 c (rw (ea, eb) at f))
+  start_edge a b c (inl ea) (inr (inr x6)) f = elim x6 [ ]
+  start_edge a b c (inr (inl ea)) (inr (inr x8)) f = elim x8 [ ]
+  start_edge a b c (inr (inr x7)) _ f = elim x7 [ ]
 
   start_wires : (a b : ℕ) → Adj (v1 ∷ v2 ∷ []) a b → (c : ℕ) × F a b c
   start_wires a b (inl e) = rw (← e.0, ← e.1) (R.next_is v1 vn v2 (R.triangle v2 v1 vn outer))
   start_wires a b (inr (inl e)) = absurd e.1
+  start_wires a b (inr (inr x'')) = elim x'' [ ]
 
   -- before the third post: v1, v2
   pub contour_start : Contour F v1 v2 (v1 ∷ v2 ∷ []) (v1 ∷ v2 ∷ [])
