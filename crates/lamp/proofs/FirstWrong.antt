@@ -168,6 +168,7 @@ module _ (number : ℕ) (h : In number list_numbers) where
       go (inr (inl e)) = omega arith
       go (inr (inr (inl e))) = omega arith
       go (inr (inr (inr (inl e)))) = omega arith
+      go (inr (inr (inr (inr x4)))) = elim x4 [ ]
 
   low : (m : ℕ) → 1 ≤ m → m ≤ 13 → m ≢ 9 → m ≢ number
   low m l k n = other m (omega arith) n

@@ -21,7 +21,6 @@ use Rattle.lamp.specs.Lamp.{order_rows, degree_rows, ring_rows, triangle_rows, o
 use Rattle.lamp.specs.Given.{accepted, refused, reply_of, given, NoneApplies}
 use Rattle.lamp.specs.Finer.{applies}
 use Rattle.lamp.specs.Loaded.{lists_answer}
-use Rattle.lamp.specs.declared.Refusal.TheVariants.{High, Itself, Repeated, Unreturned}
 use Rattle.lamp.proofs.Given.{given_first, given_none}
 
 -- check's rows before the four, and after them
