@@ -154,7 +154,7 @@ module _ (s : Places) (E : ℕ → ℕ → Type 0) (L R : List ℕ) (a b v : ℕ
         wires = extend s left_wire vb (λ P r. r) (λ P o. roof_in s a P L (v ∷ b ∷ R) (inr (inl (on_under s vb o)))) right_wire;
         chain =
             chain_swap E₂ a L (b ∷ R) (v ∷ b ∷ R) (chain_map (λ c d e. was (was e)) (L ++ a ∷ b ∷ R) k.chain)
-            (was new, (new, chain_map (λ c d e. was (was e)) (b ∷ R) tail.1));
+            (was new, (new, chain_map {E = E} {F = E₂} (λ c d e. was (was e)) (b ∷ R) tail.1));
       }
 
 -- the neighbour b cut_off off by a wire from a to c
@@ -202,5 +202,5 @@ module _ (s : Places) (E : ℕ → ℕ → Type 0) (L R : List ℕ) (a b c : ℕ
         wires = extend s k.wires ac' over (λ P o. roof_in s a P L (c ∷ R) (inl (on_under s ac' o))) cut_meet;
         chain =
             chain_swap (Add E a c) a L (b ∷ c ∷ R) (c ∷ R) (chain_map (λ c d e. was e) (L ++ a ∷ b ∷ c ∷ R) k.chain)
-            (new, chain_map (λ c d e. was e) (c ∷ R) tail'.1.1);
+            (new, chain_map {E = E} {F = Add E a c} (λ c d e. was e) (c ∷ R) tail'.1.1);
       }

@@ -53,5 +53,6 @@ module _ (s : Places) (P : Point) where
   open P use {X, d}
 
   pub roof_right : (a : ℕ) (R : List ℕ) → Rising s (a ∷ R) → Roof s P (a ∷ R) → x a * d ≤ X
+  roof_right a [] c r = elim r [ ]
   roof_right a (b ∷ R) c (inl u) = u.from
   roof_right a (b ∷ R) c (inr r) = let h = roof_right b R c.1 r in let k : x a ≤ x b = omega (arith, c.0) in omega (arith, mul-le-mul_right d k)
