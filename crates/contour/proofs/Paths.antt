@@ -162,7 +162,9 @@ module _ (right off₀ cover₀ : List ℕ) (first m d v : ℕ) where
       pub hang_fits : s + get_or off j 0 + bias ≤ 65535
       hang_fits = fit.0
 
-      pub hang_again : Hang right off₀ cover₀ first m d v (set off j (s + get_or off j 0 + bias - d)) (set cover j v) (get_or right j 0) (s + get_or off j 0) (i + 1)
+      pub hang_again
+          : Hang right off₀ cover₀ first m d v (set off j (s + get_or off j 0 + bias - d)) (set cover j v) (get_or right j 0) (s + get_or off j 0)
+          (i + 1)
       hang_again =
           record {
             upto = omega arith;
