@@ -21,9 +21,9 @@ use Rattle.order.proofs.Fitting.{fits_faces, fits_once, at_more}
 use Rattle.placing.specs.Stages.{Stage, third, place, stage}
 use Rattle.placing.proofs.Steps.{Step, place_placed, from_three, third_begin, third_run, at_each_stage}
 use Rattle.drawing.specs.Meeting.{Places}
-use Rattle.drawing.proofs.Build.{Build}
+use Rattle.drawing.proofs.Build.{base, Build}
 use Rattle.drawing.proofs.Build.Build.{post as put}
-use Rattle.shift.proofs.Shift.{HeldAll}
+use Rattle.shift.proofs.Shift.{HeldAll, HeldPair}
 use Rattle.shift.proofs.Drawn.{places_of}
 use Rattle.shift.proofs.Tri.{Over}
 use Rattle.shift.proofs.Tied.{Tied, tied_third, third_over, tied_next, over_old, over_new}
@@ -44,6 +44,7 @@ module _ (s : Places) (g : ℕ → ℕ) where
   over_between : {C : List ℕ} (B : Build C) (v : ℕ) (w : List ℕ) → HeldAll s g B → Over B v w → (x (post w 1) < x v) × (x v < x (last_of 0 w))
   over_between (put L p M q R u B) v w k (inl h) = rw (h.0, h.1, last_append p M q []) (k.0.left.far, k.0.right.far)
   over_between (put L p M q R u B) v w k (inr h) = over_between B v w k.1 h
+  over_between (base a b) v w k x5 = elim x5 [ ]
 
   from_first : (p : ℕ) (l : List ℕ) → Chain Rises (p ∷ l) → (a : ℕ) → In a (p ∷ l) → x p ≤ x a
   from_first p l c a (inl e) = omega (arith, ap x e)
@@ -56,10 +57,11 @@ module _ (s : Places) (g : ℕ → ℕ) where
   over_within : {C : List ℕ} (B : Build C) (v : ℕ) (w : List ℕ) → HeldAll s g B → Over B v w → (a : ℕ) → In a w
       → (x (post w 1) ≤ x a) × (x a ≤ x (last_of 0 w))
   over_within (put L p M q R u B) v w k (inl h) a i =
-      let c = chain_map (λ a b h. h.far) (p ∷ (M ++ q ∷ [])) k.0.run in
+      let c = chain_map {E = HeldPair s g u} {F = Rises} (λ a b h. h.far) (p ∷ (M ++ q ∷ [])) k.0.run in
       let j = subst (In a) h.1 i in
       rw (h.1, last_append p M q []) (from_first p (M ++ q ∷ []) c a j, to_last (p ∷ M) q c a j)
   over_within (put L p M q R u B) v w k (inr h) a i = over_within B v w k.1 h a i
+  over_within (base _ b) v w k x7 a i = elim x7 [ ]
 
 -- ---- a drawing in which each post of the list l, from position 3 on, was placed over its run
 abbrev EachOver : List (List ℕ) → {C : List ℕ} → Build C → List ℕ → Type 0

@@ -2,7 +2,7 @@
 use Prim.Native.Nat.{ℕ, ◌+◌, ◌*◌, ◌-◌, ◌%◌, ◌≤◌, ◌<◌}
 use mathlib.Core.Path.{◌≡◌, ap, sym, ◌∙◌, subst, subst⁻¹}
 use mathlib.Core.Logic.{◌⊎◌, inl, inr}
-use mathlib.Core.List.{List, ◌∷◌}
+use mathlib.Core.List.{List, [], ◌∷◌}
 use native.Mathlib.Omega.{arith}
 use lib.ListN.{length}
 use Rattle.words.specs.Lists.{In}
@@ -22,6 +22,8 @@ one_place s g (c ∷ l) a b h (inl i) (inl j) e = i ∙ sym j
 one_place s g (c ∷ l) a b h (inl i) (inr j) e = absurd (omega (arith, (chain_from (Onward s g) (onward_trans s g) c l h b j).ord, ap g i))
 one_place s g (c ∷ l) a b h (inr i) (inl j) e = absurd (omega (arith, (chain_from (Onward s g) (onward_trans s g) c l h a i).ord, ap g j))
 one_place s g (c ∷ d ∷ l) a b h (inr i) (inr j) e = one_place s g (d ∷ l) a b h.1 i j e
+one_place s g [] a b h x4 _ e = elim x4 [ ]
+one_place s g (c ∷ []) a b h (inr i) (inr j) e = elim i [ ]
 
 module _ {t : Stage} {C : List ℕ} {B : Build C} (D : Drawn t B) where
   -- each post is well placed over its run: no triangle has turned over

@@ -12,11 +12,13 @@ module _ (f : ℕ → List ℕ) (u : ℕ) where
   unfolding flat_map
   in_groups (c ∷ l) h =
       in_cases u (f c) (flat_map f l) (λ i. (c, inl refl, i)) (λ i. let r = in_groups l i in (r.0, inr r.1, r.2)) h
+  in_groups [] h = elim h [ ]
 
   pub groups_in : (c : ℕ) (l : List ℕ) → In c l → In u (f c) → In u (flat_map f l)
   unfolding flat_map
   groups_in c (m ∷ l) (inl e) h = in_left u (f m) (flat_map f l) (rw e at h)
   groups_in c (m ∷ l) (inr i) h = in_right u (f m) (flat_map f l) (groups_in c l i h)
+  groups_in c [] x'' h = elim x'' [ ]
 
 -- ---- a post of the contour: up to p, inside the run, or from q on
 pub sides : (c : ℕ) (X : List ℕ) (p : ℕ) (M : List ℕ) (q : ℕ) (Y : List ℕ) → In c (X ++ p ∷ (M ++ q ∷ Y))

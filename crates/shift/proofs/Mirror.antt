@@ -75,6 +75,9 @@ module _ (G : List (List ℕ)) (F : Faces G) (v1 v2 vn : ℕ) (o : After G v2 v1
     corner a b f (inl i) (inr (inl j)) = over_u (v1 ∷ v2 ∷ [], third_over G F v1 v2 v d12 d13 d23, inl (sym i, sym j))
     corner a b f (inr (inl i)) (inl j) = outer (inr (inr (R.next_one v2 v1 v vn (R.triangle v v2 v1 (rw (i, j) at f)) o, i, j)))
     corner a b f (inr (inl i)) (inr (inl j)) = absurd (R.self v2 v (R.triangle v v2 v2 (rw (i, j) at f)))
+    corner a b f (inl i) (inr (inr x4)) = elim x4 [ ]
+    corner a b f (inr (inl i)) (inr (inr x7)) = elim x7 [ ]
+    corner a b f (inr (inr x6)) _ = elim x6 [ ]
 
     -- two posts have no triangle
     flat : (u a b : ℕ) → After G u a b → In u (v1 ∷ v2 ∷ []) → In a (v1 ∷ v2 ∷ []) → In b (v1 ∷ v2 ∷ []) → ⊥
@@ -84,6 +87,11 @@ module _ (G : List (List ℕ)) (F : Faces G) (v1 v2 vn : ℕ) (o : After G v2 v1
     flat u a b f (inr (inl i)) (inl j) (inl k) = R.self v1 v2 (R.triangle v2 v1 v1 (rw (i, j, k) at f))
     flat u a b f (inr (inl i)) (inl j) (inr (inl k)) = R.self v2 v1 (R.triangle v1 v2 v2 (R.triangle v2 v1 v2 (rw (i, j, k) at f)))
     flat u a b f (inr (inl i)) (inr (inl j)) k = R.self v2 b (rw (i, j) at f)
+    flat u a b f (inl i) (inr (inl j)) (inr (inr x7)) = elim x7 [ ]
+    flat u a b f (inl i) (inr (inr x7)) k = elim x7 [ ]
+    flat u a b f (inr (inl i)) (inl j) (inr (inr x8)) = elim x8 [ ]
+    flat u a b f (inr (inl i)) (inr (inr x9)) k = elim x9 [ ]
+    flat u a b f (inr (inr x7)) _ k = elim x7 [ ]
 
     faced_third : Faced G v1 v2 vn (third v1 v2 v)
     unfolding third

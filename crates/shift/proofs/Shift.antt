@@ -42,7 +42,7 @@ good s g (post L p M q R v B) k = (
   record {
     left = omega (arith, k.0.left);
     right = omega (arith, k.0.right);
-    over = chain_map (λ a b h. h.turn) (p ∷ (M ++ q ∷ [])) k.0.run;
+    over = chain_map {E = HeldPair s g v} (λ a b h. h.turn) (p ∷ (M ++ q ∷ [])) k.0.run;
   },
   good s g B k.1,
 )

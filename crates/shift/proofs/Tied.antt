@@ -45,6 +45,10 @@ module _ (G : List (List ℕ)) (F : Faces G) (v1 v2 v3 : ℕ) (d12 : v1 ≢ v2) 
   third_wires u w (inr (inr (inl e))) (inl f) h = inl (inl (e, inl f))
   third_wires u w (inr (inr (inl e))) (inr (inl f)) h = inl (inl (e, inr (inl f)))
   third_wires u w (inr (inr (inl e))) (inr (inr (inl f))) h = absurd (entry_other G F u w h (f ∙ sym e))
+  third_wires u w (inl e) (inr (inr (inr x7))) h = elim x7 [ ]
+  third_wires u w (inr (inl e)) (inr (inr (inr x9))) h = elim x9 [ ]
+  third_wires u w (inr (inr (inl e))) (inr (inr (inr x12))) h = elim x12 [ ]
+  third_wires u w (inr (inr (inr x10))) _ h = elim x10 [ ]
 
   pub tied_third : Tied G (third v1 v2 v3)
   unfolding third

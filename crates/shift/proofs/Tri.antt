@@ -14,6 +14,7 @@ chain_adj E (k ∷ []) a b c (inl e) = absurd e.1
 chain_adj E (k ∷ []) a b c (inr h) = absurd h
 chain_adj E (k ∷ l ∷ m) a b c (inl e) = rw (← e.0, ← e.1) c.0
 chain_adj E (k ∷ l ∷ m) a b c (inr h) = chain_adj E (l ∷ m) a b c.1 h
+chain_adj E [] a b c x'' = elim x'' [ ]
 
 -- v was placed over the run w
 abbrev pub Over : {C : List ℕ} → Build C → ℕ → List ℕ → Type 0
@@ -23,6 +24,7 @@ Over (post L p M q R u B) v w = ((v ≡ u) × (w ≡ p ∷ (M ++ q ∷ []))) ⊎
 over_turns : (s : Places) {C : List ℕ} (B : Build C) (v : ℕ) (w : List ℕ) → Good s B → Over B v w → Chain (λ a b. PositiveArea s a b v) w
 over_turns s (post L p M q R u B) v w g (inl h) = rw (h.0, h.1) g.0.over
 over_turns s (post L p M q R u B) v w g (inr h) = over_turns s B v w g.1 h
+over_turns s (base a b) v w g x4 = elim x4 [ ]
 
 -- v was placed over a and b, side by side in its run
 abbrev pub Tri : {C : List ℕ} → Build C → ℕ → ℕ → ℕ → Type 0
