@@ -103,6 +103,7 @@ module _ (X : ℕ → ℕ) where
       hung_at base d low (set off b (s + get_or off b 0 + bias - d)) b (s + get_or off b 0) L o.1
       (subst⁻¹ (λ (n : ℕ). Below n L) (length-set off b (s + get_or off b 0 + bias - d)) w.1)
       (apart_set off b (s + get_or off b 0 + bias - d) L o.0 (λ x y k. h x y (inr k))) (omega (arith, h a b (inl (refl, refl)))) u j
+  hung_at base d low off a s [] o w h e u x5 = elim x5 [ ]
 
 -- ---- covered by v
 pub covered_off : (cover L : List ℕ) (v u : ℕ) → ¬ (In u L) → get_or (covered cover L v) u 0 ≡ get_or cover u 0
@@ -119,3 +120,4 @@ pub covered_at : (cover L : List ℕ) (v u : ℕ) → Once L → Below (length c
 unfolding covered
 covered_at cover (b ∷ L) v u o w (inl e) = rw e (covered_off (set cover b v) L v b o.0 ∙ get_or-set_same cover b v 0 w.0)
 covered_at cover (b ∷ L) v u o w (inr i) = covered_at (set cover b v) L v u o.1 (subst⁻¹ (λ (n : ℕ). Below n L) (length-set cover b v) w.1) i
+covered_at cover [] v u o w x3 = elim x3 [ ]

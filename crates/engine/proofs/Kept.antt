@@ -189,7 +189,8 @@ module _ (G : List (List ℕ)) (t : Stage) (v : ℕ) (s : Step G t v) (K : Kept 
           let w : In u (t'.group v) = subst⁻¹ (In u) group_new (inr (groups_in t.group u u s.M m (own u (in_M u m)))) in
           let e : c ≡ v = in_one drawn' c v u i on_new g w in
           rw (cover_in u m, e, group_new) (inl refl)
-      go (no m) (yes e) = subst⁻¹ (In (t'.cover u)) (ap t'.group e ∙ group_new) (rw (cover_off u m) (deep (subst (In u) (ap t'.group e ∙ group_new) g)))
+      go (no m) (yes e) = subst⁻¹ (In (t'.cover u)) (ap t'.group e ∙ group_new) (subst⁻¹ (λ z. In z (v ∷ flat_map t.group s.M)) (cover_off u m)
+          (deep (subst (In u) (ap t'.group e ∙ group_new) g)))
         where
           deep : In u (v ∷ flat_map t.group s.M) → In (t.cover u) (v ∷ flat_map t.group s.M)
           deep (inl e) = absurd (old u hu e)

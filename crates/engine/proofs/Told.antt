@@ -57,7 +57,7 @@ right_adj [] u b o h = absurd h
 right_adj (x ∷ []) u b o (inl h) = absurd h.1
 right_adj (x ∷ []) u b o (inr h) = absurd h
 right_adj (x ∷ y ∷ l) u b o (inl h) = rw (eq-eqb x u h.0) h.1
-right_adj (x ∷ y ∷ l) u b o (inr h) = rw (ne_eqb x u (λ e. o.0 (rw (← e) at (adj_in_left u b (y ∷ l) h)))) (right_adj (y ∷ l) u b o.1 h)
+right_adj (x ∷ y ∷ l) u b o (inr h) = rw (ne_eqb x u (λ e. o.0 (subst⁻¹ (λ (a : ℕ). In a (y ∷ l)) e (adj_in_left u b (y ∷ l) h)))) (right_adj (y ∷ l) u b o.1 h)
 
 -- a post of a list is the first, or has a left neighbour; is the last, or has a right neighbour
 some_left : (x : ℕ) (l : List ℕ) (u : ℕ) → In u (x ∷ l) → (u ≡ x) ⊎ ((a : ℕ) × Adj (x ∷ l) a u)
