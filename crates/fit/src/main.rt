@@ -1,8 +1,10 @@
 // Reads standard input as one block and prints, for each position from 3 on, between which posts its post was fitted; or the refusal.
 #![tactic(auto)]
 
-fn main() {
+use std::io;
+
+fn main(rt: HostRuntime) -> io::Result<()> {
     let mut block = show::no_bytes();
-    let n = io::read_full(0, &mut block);
-    fits::print_fit(&block[..n]);
+    let n = show::read_block(&mut rt.stdin(), &mut block);
+    fits::print_fit(&mut rt.stdout(), &block[..n])
 }

@@ -1,7 +1,8 @@
 // What `fit` prints: for each position from 3 on, between which posts its post was fitted, and where it stands on the last sheet.
 #![tactic(auto)]
 
-ghost use Rattle.std.specs.Prelude.{◌≡◌, ◌*◌, ◌≤◌, length};
+ghost use Rattle.std.specs.Prelude.{◌≡◌, ◌*◌, ◌≤◌, length, OnOk};
+ghost use Rattle.std.specs.Io.KnownBytes.{Appends};
 ghost use Rattle.block.specs.Layout.{limit};
 ghost use Rattle.block.specs.Block.{order, Headed};
 ghost use Rattle.lamp.specs.Given.{accepted, check_reply};
@@ -12,6 +13,8 @@ ghost use Rattle.fits.specs.Entered.{fit_entry_line};
 use block::Block;
 use lamp::Answer;
 use show::{blank, print, refusal_line};
+use std::io;
+use std::io::Write;
 
 // The line of a position.
 fn fit_line(i: u16, u: u16, l: u16, r: u16, x: u16, y: u16, out: &mut [u8], at: usize) -> usize
@@ -98,15 +101,18 @@ fn no_fit_text() -> [u8; FIT]
 }
 
 // The whole text.
-fn hand_fit(s: &[u8], t: &[u8])
+fn hand_fit<W: Write>(to: &mut W, s: &[u8], t: &[u8]) -> io::Result<()>
     requires { t.now ≡ fit_text s.now }
+    ensures { OnOk result (Appends (W.contents to.old) (W.contents to.new) (fit_text s.now)) }
 {
-    print(t);
+    print(to, t)
 }
 
 // Prints a block's lines, or its refusal.
-pub fn print_fit(s: &[u8]) {
+pub fn print_fit<W: Write>(to: &mut W, s: &[u8]) -> io::Result<()>
+    ensures { OnOk result (Appends (W.contents to.old) (W.contents to.new) (fit_text s.now)) }
+{
     let mut out = no_fit_text();
     let n = fit(s, &mut out);
-    hand_fit(s, &out[..n]);
+    hand_fit(to, s, &out[..n])
 }

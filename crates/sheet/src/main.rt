@@ -1,8 +1,10 @@
 // Reads standard input as one block and prints its last stage, or the refusal.
 #![tactic(auto)]
 
-fn main() {
+use std::io;
+
+fn main(rt: HostRuntime) -> io::Result<()> {
     let mut block = show::no_bytes();
-    let n = io::read_full(0, &mut block);
-    show::print_last(&block[..n]);
+    let n = show::read_block(&mut rt.stdin(), &mut block);
+    show::print_last(&mut rt.stdout(), &block[..n])
 }

@@ -4,3 +4,4 @@ pub mod Lengths
 pub mod Replying
 pub mod Whys
 pub mod OnBoards
+pub mod Reading

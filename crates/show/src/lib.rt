@@ -1,10 +1,12 @@
-// What the programs print, byte for byte as specs/ defines it, in a lent buffer; and handing it to the kit's write call.
+// What the programs print, byte for byte as specs/ defines it, in a lent buffer; handing it to a writer; and reading a block.
 #![tactic(auto)]
 
+mod input;
 mod plain;
 mod replies;
 
-ghost use Rattle.std.specs.Prelude.{◌≡◌, ◌++◌, ◌+◌, ◌*◌, ◌≤◌, length};
+ghost use Rattle.std.specs.Prelude.{◌≡◌, ◌++◌, ◌+◌, ◌*◌, ◌≤◌, length, OnOk};
+ghost use Rattle.std.specs.Io.KnownBytes.{Appends};
 ghost use Rattle.block.specs.Layout.{limit, size};
 ghost use Rattle.block.specs.Block.{order, Headed};
 ghost use Rattle.lamp.specs.Refusals.{number_of, place_of};
@@ -14,9 +16,11 @@ ghost use Rattle.show.specs.Entered.{entry_line};
 
 use block::Block;
 use lamp::{Answer, Refusal};
-use libc::STDOUT_FILENO;
+pub use input::read_block;
 pub use plain::{print_why, why};
 pub use replies::{check, reply_of_post, reply_of_sheet};
+use std::io;
+use std::io::Write;
 use text::Word;
 
 // A refusal: the word, its number and its place.
@@ -149,35 +153,43 @@ pub fn no_bytes() -> [u8; READ]
     [0u8; READ]
 }
 
-// To standard output. What is written no contract can say; the next two ask for it.
-pub fn print(t: &[u8]) {
-    io::write_all(STDOUT_FILENO, t);
+// To a writer, all of it or an error.
+pub fn print<W: Write>(to: &mut W, t: &[u8]) -> io::Result<()>
+    ensures { OnOk result (Appends (W.contents to.old) (W.contents to.new) t.now) }
+{
+    to.write_all(t)
 }
 
 // The whole text of the block's last stage.
-fn hand_last(s: &[u8], t: &[u8])
+fn hand_last<W: Write>(to: &mut W, s: &[u8], t: &[u8]) -> io::Result<()>
     requires { t.now ≡ last_text s.now }
+    ensures { OnOk result (Appends (W.contents to.old) (W.contents to.new) (last_text s.now)) }
 {
-    print(t);
+    print(to, t)
 }
 
 // The whole text of the stage that the word names.
-fn hand_stage(s: &[u8], word: &[u8], t: &[u8])
+fn hand_stage<W: Write>(to: &mut W, s: &[u8], word: &[u8], t: &[u8]) -> io::Result<()>
     requires { t.now ≡ stage_text s.now word.now }
+    ensures { OnOk result (Appends (W.contents to.old) (W.contents to.new) (stage_text s.now word.now)) }
 {
-    print(t);
+    print(to, t)
 }
 
-// Prints a block's last sheet, or its refusal: what is handed to the write call is the whole text.
-pub fn print_last(s: &[u8]) {
+// Prints a block's last sheet, or its refusal: what is handed to the writer is the whole text.
+pub fn print_last<W: Write>(to: &mut W, s: &[u8]) -> io::Result<()>
+    ensures { OnOk result (Appends (W.contents to.old) (W.contents to.new) (last_text s.now)) }
+{
     let mut out = no_text();
     let n = last_sheet(s, &mut out);
-    hand_last(s, &out[..n]);
+    hand_last(to, s, &out[..n])
 }
 
 // Prints the stage that the word names.
-pub fn print_stage(s: &[u8], word: &[u8]) {
+pub fn print_stage<W: Write>(to: &mut W, s: &[u8], word: &[u8]) -> io::Result<()>
+    ensures { OnOk result (Appends (W.contents to.old) (W.contents to.new) (stage_text s.now word.now)) }
+{
     let mut out = no_text();
     let n = stage(s, word, &mut out);
-    hand_stage(s, word, &out[..n]);
+    hand_stage(to, s, word, &out[..n])
 }

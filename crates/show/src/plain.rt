@@ -1,5 +1,6 @@
 // What `why` prints: check's reply in plain words.
-ghost use Rattle.std.specs.Prelude.{◌≡◌, ◌≤◌, length};
+ghost use Rattle.std.specs.Prelude.{◌≡◌, ◌≤◌, length, OnOk};
+ghost use Rattle.std.specs.Io.KnownBytes.{Appends};
 ghost use Rattle.block.specs.Layout.{limit, order_at};
 ghost use Rattle.block.specs.Block.{posts};
 ghost use Rattle.lamp.specs.Refusals.{number_of, place_of};
@@ -9,6 +10,8 @@ ghost use Rattle.show.specs.Why.{accepted_line, refused_line, why_text};
 use crate::{no_text, print, refusal};
 use block::Block;
 use lamp::{Answer, Refusal};
+use std::io;
+use std::io::Write;
 
 // An accepted block of n posts.
 fn accepted_line(n: u16, out: &mut [u8]) -> usize
@@ -57,15 +60,18 @@ pub fn why(s: &[u8], out: &mut [u8]) -> usize
 }
 
 // The whole text.
-fn hand_why(s: &[u8], t: &[u8])
+fn hand_why<W: Write>(to: &mut W, s: &[u8], t: &[u8]) -> io::Result<()>
     requires { t.now ≡ why_text s.now }
+    ensures { OnOk result (Appends (W.contents to.old) (W.contents to.new) (why_text s.now)) }
 {
-    print(t);
+    print(to, t)
 }
 
 // Prints a block's reply in plain words.
-pub fn print_why(s: &[u8]) {
+pub fn print_why<W: Write>(to: &mut W, s: &[u8]) -> io::Result<()>
+    ensures { OnOk result (Appends (W.contents to.old) (W.contents to.new) (why_text s.now)) }
+{
     let mut out = no_text();
     let n = why(s, &mut out);
-    hand_why(s, &out[..n]);
+    hand_why(to, s, &out[..n])
 }

@@ -1,17 +1,19 @@
 // Reads standard input as one block and prints the stage that the argument names, or the refusal. An argument that is no number needs no block.
 #![tactic(auto)]
 
+use std::env::Env;
+use std::io;
 use text::Word;
 
-fn main() {
+fn main(rt: HostRuntime) -> io::Result<()> {
     let mut word = [0u8; 32];
-    let w = os::arg(1, &mut word);
+    let w = rt.arg(1, &mut word).unwrap_or(0);
     let mut block = show::no_bytes();
     match text::said(&word[..w], 0) {
-        Word::Other => show::print_stage(b"", &word[..w]),
+        Word::Other => show::print_stage(&mut rt.stdout(), b"", &word[..w]),
         Word::Number(_) => {
-            let n = io::read_full(0, &mut block);
-            show::print_stage(&block[..n], &word[..w]);
+            let n = show::read_block(&mut rt.stdin(), &mut block);
+            show::print_stage(&mut rt.stdout(), &block[..n], &word[..w])
         }
     }
 }
