@@ -9,6 +9,8 @@ mod over;
 ghost use Rattle.std.specs.Prelude.{◌≡◌, length};
 
 use block::Block;
+use std::io;
+use std::io::Write;
 
 // Room for the longest line of a case, and more.
 const LINE: usize = 200;
@@ -20,164 +22,167 @@ fn no_line() -> [u8; LINE]
 }
 
 // The first n bytes of a text.
-fn print(t: &[u8], n: usize) {
+fn print<W: Write>(to: &mut W, t: &[u8], n: usize) -> io::Result<()> {
     if n <= t.len() {
-        show::print(&t[..n]);
+        show::print(to, &t[..n])?;
     }
+    Ok(())
 }
 
-fn check(s: &[u8]) {
+fn check<W: Write>(to: &mut W, s: &[u8]) -> io::Result<()> {
     let mut line = no_line();
     let n = show::check(s, &mut line);
-    print(&line, n);
+    print(to, &line, n)
 }
 
-fn check_front(s: &[u8], n: usize) {
+fn check_front<W: Write>(to: &mut W, s: &[u8], n: usize) -> io::Result<()> {
     if n <= s.len() {
-        check(&s[..n]);
+        check(to, &s[..n])?;
     }
+    Ok(())
 }
 
-fn reply_of_sheet(s: &[u8], k: usize, buffer: &mut [u16]) {
+fn reply_of_sheet<W: Write>(to: &mut W, s: &[u8], k: usize, buffer: &mut [u16]) -> io::Result<()> {
     let mut line = no_line();
     let n = show::reply_of_sheet(s, k, buffer, &mut line);
-    print(&line, n);
+    print(to, &line, n)
 }
 
-fn reply_of_post(s: &[u8], k: usize, u: usize) {
+fn reply_of_post<W: Write>(to: &mut W, s: &[u8], k: usize, u: usize) -> io::Result<()> {
     let mut line = no_line();
     let n = show::reply_of_post(s, k, u, &mut line);
-    print(&line, n);
+    print(to, &line, n)
 }
 
-fn sheets() {
+fn sheets<W: Write>(to: &mut W) -> io::Result<()> {
     let t = boards::board_t();
     let d = boards::board_d();
     let mut six = [9u16; 7];
-    show::print(b"1. T, stage 3: ");
-    reply_of_sheet(&t, 3, &mut six);
+    show::print(to, b"1. T, stage 3: ")?;
+    reply_of_sheet(to, &t, 3, &mut six)?;
     let mut third = [9u16; 7];
-    show::print(b"2. D, stage 3: ");
-    reply_of_sheet(&d, 3, &mut third);
+    show::print(to, b"2. D, stage 3: ")?;
+    reply_of_sheet(to, &d, 3, &mut third)?;
     let mut fourth = [9u16; 9];
-    show::print(b"3. D, stage 4: ");
-    reply_of_sheet(&d, 4, &mut fourth);
+    show::print(to, b"3. D, stage 4: ")?;
+    reply_of_sheet(to, &d, 4, &mut fourth)?;
     let mut fifth = [9u16; 11];
-    show::print(b"4. D, stage 5: ");
-    reply_of_sheet(&d, 5, &mut fifth);
+    show::print(to, b"4. D, stage 5: ")?;
+    reply_of_sheet(to, &d, 5, &mut fifth)
 }
 
-fn autumn_block() {
+fn autumn_block<W: Write>(to: &mut W) -> io::Result<()> {
     let d = boards::autumn();
-    show::print(b"5. D with order 0 1 3 2 4: ");
-    check(&d);
+    show::print(to, b"5. D with order 0 1 3 2 4: ")?;
+    check(to, &d)
 }
 
-fn rooms() {
+fn rooms<W: Write>(to: &mut W) -> io::Result<()> {
     let d = boards::board_d();
     let mut b = [9u16; 12];
-    show::print(b"6. D, stage 2: ");
-    reply_of_sheet(&d, 2, &mut b);
-    show::print(b"6. D, stage 6: ");
-    reply_of_sheet(&d, 6, &mut b);
+    show::print(to, b"6. D, stage 2: ")?;
+    reply_of_sheet(to, &d, 2, &mut b)?;
+    show::print(to, b"6. D, stage 6: ")?;
+    reply_of_sheet(to, &d, 6, &mut b)?;
     let mut nine = [9u16; 9];
-    show::print(b"6. D, stage 5 with 9 entries: ");
-    reply_of_sheet(&d, 5, &mut nine);
+    show::print(to, b"6. D, stage 5 with 9 entries: ")?;
+    reply_of_sheet(to, &d, 5, &mut nine)?;
     let mut ten = [9u16; 10];
-    show::print(b"6. D, stage 5 with 10 entries: ");
-    reply_of_sheet(&d, 5, &mut ten);
+    show::print(to, b"6. D, stage 5 with 10 entries: ")?;
+    reply_of_sheet(to, &d, 5, &mut ten)
 }
 
-fn records() {
+fn records<W: Write>(to: &mut W) -> io::Result<()> {
     let d = boards::board_d();
-    show::print(b"7. D, post 2 at stage 3: ");
-    reply_of_post(&d, 3, 2);
-    show::print(b"7. D, post 2 at stage 4: ");
-    reply_of_post(&d, 4, 2);
-    show::print(b"8. D, post 4 at stage 4: ");
-    reply_of_post(&d, 4, 4);
-    show::print(b"8. D, name 5 at stage 4: ");
-    reply_of_post(&d, 4, 5);
+    show::print(to, b"7. D, post 2 at stage 3: ")?;
+    reply_of_post(to, &d, 3, 2)?;
+    show::print(to, b"7. D, post 2 at stage 4: ")?;
+    reply_of_post(to, &d, 4, 2)?;
+    show::print(to, b"8. D, post 4 at stage 4: ")?;
+    reply_of_post(to, &d, 4, 4)?;
+    show::print(to, b"8. D, name 5 at stage 4: ")?;
+    reply_of_post(to, &d, 4, 5)
 }
 
-fn sums() {
+fn sums<W: Write>(to: &mut W) -> io::Result<()> {
     let mut t = boards::board_t();
-    show::print(b"9. T with its last byte removed: ");
-    check_front(&t, 32);
+    show::print(to, b"9. T with its last byte removed: ")?;
+    check_front(to, &t, 32)?;
     t[32] = 237;
-    show::print(b"9. T with sum 237: ");
-    check(&t);
+    show::print(to, b"9. T with sum 237: ")?;
+    check(to, &t)
 }
 
-fn heads() {
+fn heads<W: Write>(to: &mut W) -> io::Result<()> {
     let mut d = boards::board_d();
-    show::print(b"10. an empty block: ");
-    check_front(&d, 0);
-    show::print(b"10. a block of 6 bytes: ");
-    check_front(&d, 6);
+    show::print(to, b"10. an empty block: ")?;
+    check_front(to, &d, 0)?;
+    show::print(to, b"10. a block of 6 bytes: ")?;
+    check_front(to, &d, 6)?;
     d[6] = 2;
-    show::print(b"10. n = 2: ");
-    check(&d);
+    show::print(to, b"10. n = 2: ")?;
+    check(to, &d)?;
     let many = Block::LIMIT + 1;
     d[5] = (many / 256 % 256) as u8;
     d[6] = (many % 256) as u8;
-    show::print(b"10. n one above the limit: ");
-    check(&d);
+    show::print(to, b"10. n one above the limit: ")?;
+    check(to, &d)?;
     let e = boards::twice();
-    show::print(b"11. D with order 0 1 2 2 4: ");
-    check(&e);
+    show::print(to, b"11. D with order 0 1 2 2 4: ")?;
+    check(to, &e)
 }
 
-fn list_faults() {
+fn list_faults<W: Write>(to: &mut W) -> io::Result<()> {
     let high = lists::high();
-    show::print(b"12. D with 0 1 7 for the list of 2: ");
-    check(&high);
+    show::print(to, b"12. D with 0 1 7 for the list of 2: ")?;
+    check(to, &high)?;
     let itself = lists::itself();
-    show::print(b"13. D with 0 1 2 for the list of 2: ");
-    check(&itself);
+    show::print(to, b"13. D with 0 1 2 for the list of 2: ")?;
+    check(to, &itself)?;
     let repeated = lists::repeated();
-    show::print(b"14. D with 0 1 1 for the list of 2: ");
-    check(&repeated);
+    show::print(to, b"14. D with 0 1 1 for the list of 2: ")?;
+    check(to, &repeated)?;
     let unreturned = lists::unreturned();
-    show::print(b"15. D with 0 1 4 for the list of 2: ");
-    check(&unreturned);
+    show::print(to, b"15. D with 0 1 4 for the list of 2: ")?;
+    check(to, &unreturned)?;
     let first = lists::high_first();
-    show::print(b"16. D with 1 7 1 4 for the list of 0: ");
-    check(&first);
+    show::print(to, b"16. D with 1 7 1 4 for the list of 0: ")?;
+    check(to, &first)?;
     let second = lists::repeated_first();
-    show::print(b"16. D with 1 1 7 4 for the list of 0: ");
-    check(&second);
+    show::print(to, b"16. D with 1 1 7 4 for the list of 0: ")?;
+    check(to, &second)
 }
 
-fn programs() {
+fn programs<W: Write>(to: &mut W) -> io::Result<()> {
     let t = boards::board_t();
     let d = boards::autumn();
-    show::print(b"the program on T:\n");
-    show::print_last(&t);
-    show::print(b"the program on case 5:\n");
-    show::print_last(&d);
-    show::print(b"the program on an empty input:\n");
-    show::print_last(&d[..0]);
+    show::print(to, b"the program on T:\n")?;
+    show::print_last(to, &t)?;
+    show::print(to, b"the program on case 5:\n")?;
+    show::print_last(to, &d)?;
+    show::print(to, b"the program on an empty input:\n")?;
+    show::print_last(to, &d[..0])
 }
 
-fn ends() {
+fn ends<W: Write>(to: &mut W) -> io::Result<()> {
     let l = over::board_l();
-    show::print(b"17. L, post 3 at stage 4: ");
-    reply_of_post(&l, 4, 3);
-    show::print(b"17. L, post 3 at stage 5: ");
-    reply_of_post(&l, 5, 3);
-    show::print(b"17. L, post 0 at stage 5: ");
-    reply_of_post(&l, 5, 0);
+    show::print(to, b"17. L, post 3 at stage 4: ")?;
+    reply_of_post(to, &l, 4, 3)?;
+    show::print(to, b"17. L, post 3 at stage 5: ")?;
+    reply_of_post(to, &l, 5, 3)?;
+    show::print(to, b"17. L, post 0 at stage 5: ")?;
+    reply_of_post(to, &l, 5, 0)
 }
 
-fn main() {
-    sheets();
-    autumn_block();
-    rooms();
-    records();
-    sums();
-    heads();
-    list_faults();
-    ends();
-    programs();
+fn main(rt: HostRuntime) -> io::Result<()> {
+    let to = &mut rt.stdout();
+    sheets(to)?;
+    autumn_block(to)?;
+    rooms(to)?;
+    records(to)?;
+    sums(to)?;
+    heads(to)?;
+    list_faults(to)?;
+    ends(to)?;
+    programs(to)
 }

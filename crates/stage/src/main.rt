@@ -1,19 +1,19 @@
 // Reads standard input as one block and prints the stage that the argument names, or the refusal. An argument that is no number needs no block.
+// What was read is the block where a read failed, and a write that fails is let go.
 #![tactic(auto)]
 
 use std::env::Env;
-use std::io;
 use text::Word;
 
-fn main(rt: HostRuntime) -> io::Result<()> {
+fn main(rt: HostRuntime) {
     let mut word = [0u8; 32];
     let w = rt.arg(1, &mut word).unwrap_or(0);
     let mut block = show::no_bytes();
-    match text::said(&word[..w], 0) {
+    let _ = match text::said(&word[..w], 0) {
         Word::Other => show::print_stage(&mut rt.stdout(), b"", &word[..w]),
         Word::Number(_) => {
-            let n = show::read_block(&mut rt.stdin(), &mut block);
+            let (n, _) = show::read_block(&mut rt.stdin(), &mut block);
             show::print_stage(&mut rt.stdout(), &block[..n], &word[..w])
         }
-    }
+    };
 }

@@ -1,0 +1,8 @@
+use mathlib.Core.Path.{refl}
+use mathlib.Core.List.{flat_map, flatten}
+use Rattle.unit.specs.Starred.{bytes, block_of, T}
+use Rattle.cases.proofs.boards.board_t.Goals as goal
+
+pub returns : goal.returns
+unfolding flat_map flatten bytes block_of T
+returns c = refl
