@@ -1,3 +1,2 @@
 // The shift method keeps its triangles: laws, no running code.
 #![tactic(auto)]
-

@@ -15,8 +15,8 @@ ghost use Rattle.show.specs.Shown.{refusal_text, refusal_line, head_line, positi
 ghost use Rattle.show.specs.Entered.{entry_line};
 
 use block::Block;
-use lamp::{Answer, Refusal};
 pub use input::read_block;
+use lamp::{Answer, Refusal};
 pub use plain::{print_why, why};
 pub use replies::{check, reply_of_post, reply_of_sheet};
 use std::io;

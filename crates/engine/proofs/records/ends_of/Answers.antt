@@ -24,9 +24,8 @@ of_run-requires-2 c =
     kept_run _ _ _ c.requires.0 _ _ c.requires.1 _ c.requires.2 c.requires.3 (omega arith) _ (omega (arith, two, many, c.number-many.ensures.0))
 
 pub returns : goal.returns
-returns c =
-    (
-      left_is _ _ _ c.requires.0 _ _ c.requires.1 _ c.requires.2 c.requires.3 (omega arith) _ c.of_run.ensures,
-      right_is _ _ _ c.requires.0 _ _ c.requires.1 _ c.requires.2 c.requires.3 (omega arith) _ _ c.number-many.ensures.0
-          c.of_run-2.ensures,
-    )
+returns c = (
+  left_is _ _ _ c.requires.0 _ _ c.requires.1 _ c.requires.2 c.requires.3 (omega arith) _ c.of_run.ensures,
+  right_is _ _ _ c.requires.0 _ _ c.requires.1 _ c.requires.2 c.requires.3 (omega arith) _ _ c.number-many.ensures.0
+      c.of_run-2.ensures,
+)
