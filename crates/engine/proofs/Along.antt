@@ -90,7 +90,8 @@ module _ (X : ℕ → ℕ) where
   pub hung_length : (off L : List ℕ) (s d : ℕ) → length (hung off L s d) ≡ length off
   unfolding hung
   hung_length off [] s d = refl
-  hung_length off (b ∷ L) s d = hung_length (set off b (s + get_or off b 0 + bias - d)) L (s + get_or off b 0) d ∙ length-set off b (s + get_or off b 0 + bias - d)
+  hung_length off (b ∷ L) s d = hung_length (set off b (s + get_or off b 0 + bias - d)) L (s + get_or off b 0) d
+      ∙ length-set off b (s + get_or off b 0 + bias - d)
 
   pub hung_at : (base d : ℕ) → d ≤ bias → (off : List ℕ) (a s : ℕ) (L : List ℕ) → Once L → Below (length off) L → Apart off (a ∷ L) → s + base ≡ X a + 1
       → (u : ℕ) → In u L → X u + 1 + bias ≡ base + d + get_or (hung off L s d) u 0

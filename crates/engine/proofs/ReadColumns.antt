@@ -158,7 +158,9 @@ module _ (at ents vs : List ℕ) (A : Fitted at ents vs) (k : ℕ) (h : 3 ≤ k)
       let x = t.x in
       let last : x (get_or vs 0 0) + along off L ≡ x (last_of (get_or vs 0 0) L) =
       along_list x off (get_or vs 0 0) L (λ a b j. S.apart a b (subst⁻¹ (λ (l : List ℕ). Adj l a b) e j)) in
-      let f = low (last_of (get_or vs 0 0) L) (on_placed (last_of (get_or vs 0 0) L) (subst⁻¹ (In (last_of (get_or vs 0 0) L)) e (last_in (get_or vs 0 0) L))) in
+      let f =
+      low (last_of (get_or vs 0 0) L)
+      (on_placed (last_of (get_or vs 0 0) L) (subst⁻¹ (In (last_of (get_or vs 0 0) L)) e (last_in (get_or vs 0 0) L))) in
       record {
         of_right = below (length right) H.room.of_right;
         of_off = below (length off) H.room.of_off;
@@ -197,7 +199,8 @@ module _ (at ents vs : List ℕ) (A : Fitted at ents vs) (k : ℕ) (h : 3 ≤ k)
   abbrev column : List ℕ → ℕ → ℕ
   column zs j = column_of zs off (get_or vs j 0) (get_or cover (get_or vs j 0) 0)
 
-  read_one : (zs : List ℕ) (j : ℕ) → j < k → Read zs (suc j) → ColumnFits zs off (get_or vs j 0) (get_or cover (get_or vs j 0) 0) × (column zs j ≡ t.x (get_or vs j 0))
+  read_one : (zs : List ℕ) (j : ℕ) → j < k → Read zs (suc j)
+      → ColumnFits zs off (get_or vs j 0) (get_or cover (get_or vs j 0) 0) × (column zs j ≡ t.x (get_or vs j 0))
   read_one zs j l R = go (in_dec (get_or vs j 0) t.contour)
     where
       go : Dec (In (get_or vs j 0) t.contour) → ColumnFits zs off (get_or vs j 0) (get_or cover (get_or vs j 0) 0) × (column zs j ≡ t.x (get_or vs j 0))

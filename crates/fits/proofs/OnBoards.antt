@@ -19,7 +19,8 @@ use Rattle.fits.proofs.Fitting.{fit_entered}
 
 -- the ends of D's runs, as a call of ends writes them: v1 and v2 count as their own
 ends_D : ends_after (D order_d 285) 5 (9 ∷ 9 ∷ 9 ∷ 9 ∷ 9 ∷ 9 ∷ 9 ∷ 9 ∷ 9 ∷ 9 ∷ 9 ∷ []) ≡ 0 ∷ 0 ∷ 1 ∷ 1 ∷ 0 ∷ 1 ∷ 0 ∷ 1 ∷ 0 ∷ 1 ∷ 9 ∷ []
-unfolding ends_after buffer_for ends_of fit_left fit_right run_of run begins leads rest lead from mem all_of any_of first lists lists_from degrees order words_at
+unfolding ends_after buffer_for ends_of fit_left fit_right run_of run begins leads rest lead from mem all_of any_of first lists lists_from
+    degrees order words_at
     flat_map flatten bytes block_of D starred
 ends_D = rw starred_given.1.1.1.0.0 refl
 

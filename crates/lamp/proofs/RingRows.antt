@@ -121,7 +121,8 @@ module _ (s : List ℕ) where
   unfolding fault_of fault_at is_bad
   fault_reply n is many = rw many (go (some_name ring_fault s) refl)
     where
-      go : (x : Bool) → some_name ring_fault s ≡ x → reply_of (lists_answer n (cond (ltb u (posts s)) (fault_at G u i) ListFault.Sound)) ≡ given ring_rows s posts
+      go : (x : Bool) → some_name ring_fault s ≡ x
+          → reply_of (lists_answer n (cond (ltb u (posts s)) (fault_at G u i) ListFault.Sound)) ≡ given ring_rows s posts
       go true t =
           rw (lt-ltb u (posts s) (omega (arith, lowest_name t)))
           (answered n (is_high G u i) (is_itself G u i) (is_repeated G u i) (is_unreturned G u i) (lowest_bad t) ∙ sym (ring_given posts [] t))

@@ -97,7 +97,8 @@ module _ (at ents vs begin : List ℕ) (k i : ℕ) (R : RunKept at ents vs begin
   entry : (j : ℕ) → j < e - b → get_or (ring (held at ents) (post vs k)) j 0 ≡ get_or ents (b + j) 0
   entry j h =
       let q : b + j - b ≡ j = omega arith in
-      ap (λ (l : List ℕ). get_or l j 0) ring_is ∙ ap (λ (n : ℕ). get_or (slice b e ents) n 0) (sym q) ∙ part_at ents b e (b + j) (omega arith) (omega arith) in_ents
+      ap (λ (l : List ℕ). get_or l j 0) ring_is ∙ ap (λ (n : ℕ). get_or (slice b e ents) n 0) (sym q)
+      ∙ part_at ents b e (b + j) (omega arith) (omega arith) in_ents
 
   pub read_inside : b + g + i < e → get_or ents (b + g + i) 0 ≡ get_or the_run_lem i 0
   read_inside h =

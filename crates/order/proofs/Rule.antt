@@ -137,7 +137,8 @@ module _ (at ents vs rank : List ℕ) (L : Listed at ents vs rank) (k v b e : �
           none : runs ≡ 0
           none = omega arith
 
-          same : (j : ℕ) → 0 ≤ j → j < 0 + (e - b) → eqb (get_or (ring (held at ents) (post vs k)) j 0) (get_or vs 0 0) ≡ eqb (get_or ents (b + j) 0) (get_or vs 0 0)
+          same : (j : ℕ) → 0 ≤ j → j < 0 + (e - b)
+              → eqb (get_or (ring (held at ents) (post vs k)) j 0) (get_or vs 0 0) ≡ eqb (get_or ents (b + j) 0) (get_or vs 0 0)
           same j h i =
               let q : b + j - b ≡ j = omega arith in
               let there : get_or (slice b e ents) j 0 ≡ get_or ents (b + j) 0 =

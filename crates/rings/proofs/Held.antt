@@ -54,7 +54,8 @@ module _ (at ents : List ℕ) where
   unfolding outer_rule mem
   outer_none v1 v2 vn h = rw (held_none v1 h) refl
 
-  module _ (v1 v2 vn x y : ℕ) (h : v1 + 1 < length at) (ex : x ≡ get_or at v1 0) (ey : y ≡ get_or at (v1 + 1) 0) (r : Bool) (e : r ≡ mem (slice x y ents) v2) where
+  module _ (v1 v2 vn x y : ℕ) (h : v1 + 1 < length at) (ex : x ≡ get_or at v1 0) (ey : y ≡ get_or at (v1 + 1) 0) (r : Bool)
+      (e : r ≡ mem (slice x y ents) v2) where
     pub outer_apart : r ≡ false → false ≡ outer_rule (held at ents) v1 v2 vn
     unfolding outer_rule
     outer_apart n = rw (held_part v1 x y h ex ey, ← e, n) refl

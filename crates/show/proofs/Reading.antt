@@ -14,4 +14,5 @@ pub read_part : (a k n : ℕ) (xs ys : List ℕ) → a ≤ length xs → n ≤ l
 read_part a k n xs ys within fits =
     let same : a + n - a ≡ n = omega arith in
     let after = post_of a k xs in
-    ap (take (a + n - a)) (drop_at (take a xs) (ys ++ after) a (length-take-le a xs within)) ∙ ap (λ m. take m (ys ++ after)) same ∙ take-append-le n ys after fits
+    ap (take (a + n - a)) (drop_at (take a xs) (ys ++ after) a (length-take-le a xs within)) ∙ ap (λ m. take m (ys ++ after)) same
+    ∙ take-append-le n ys after fits

@@ -17,16 +17,20 @@ use Rattle.unit.specs.Starred.{bytes, block_of, T, D, DList, L, starred_ends, st
 
 ends_given : AllGive starred_ends
 unfolding flat_map flatten words_at sum_of numbers first some mem all_of any_of count order degrees lists_from lists marked bad_entry bad_degree around next
-    all_next follows entry_rule ring_rule triangle_rule outer_rule two_placed from lead rest leads one_run begins run third up_to on_from place_over place place_all
-    stage left_of right_of standing run_of fit_left fit_right record_of entries_of ends_of block_rows position_rows check_rows sheet_rows post_rows given stage_at
+    all_next follows entry_rule ring_rule triangle_rule outer_rule two_placed from lead rest leads one_run begins run third up_to on_from place_over place
+    place_all
+    stage left_of right_of standing run_of fit_left fit_right record_of entries_of ends_of block_rows position_rows check_rows sheet_rows post_rows
+    given stage_at
     check_reply sheet_reply buffer_for buffer_after ends_after post_reply bytes block_of L starred_ends is_high is_itself is_repeated is_unreturned is_bad
     first_bad
 ends_given = (refl, (refl, (refl, ((refl, refl), ((refl, refl), tt)))))
 
 pub starred_given : AllGive starred
 unfolding flat_map flatten words_at sum_of numbers first some mem all_of any_of count order degrees lists_from lists marked bad_entry bad_degree around next
-    all_next follows entry_rule ring_rule triangle_rule outer_rule two_placed from lead rest leads one_run begins run third up_to on_from place_over place place_all
-    stage left_of right_of standing run_of fit_left fit_right record_of entries_of ends_of block_rows position_rows check_rows sheet_rows post_rows given stage_at
+    all_next follows entry_rule ring_rule triangle_rule outer_rule two_placed from lead rest leads one_run begins run third up_to on_from place_over place
+    place_all
+    stage left_of right_of standing run_of fit_left fit_right record_of entries_of ends_of block_rows position_rows check_rows sheet_rows post_rows
+    given stage_at
     check_reply sheet_reply buffer_for buffer_after ends_after post_reply bytes block_of T D DList L starred is_high is_itself is_repeated is_unreturned is_bad
     first_bad
 starred_given = (

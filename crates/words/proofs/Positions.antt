@@ -31,7 +31,8 @@ module _ (vs : List ℕ) (k a : ℕ) where
 
   pub later_in : Later vs k a → In a (later vs k)
   later_in t =
-      let e : get_or (drop k vs) (t.0 - 1 - k) 0 ≡ get_or vs (t.0 - 1) 0 = get_or-drop k vs (t.0 - 1 - k) 0 ∙ ap (λ (j : ℕ). get_or vs j 0) (omega (arith, t.1)) in
+      let e : get_or (drop k vs) (t.0 - 1 - k) 0 ≡ get_or vs (t.0 - 1) 0 =
+      get_or-drop k vs (t.0 - 1 - k) 0 ∙ ap (λ (j : ℕ). get_or vs j 0) (omega (arith, t.1)) in
       rw (← t.3, ← e) (place_in (drop k vs) (t.0 - 1 - k) (omega (arith, t.1, t.2, length-drop k vs)))
 
   pub in_later : In a (later vs k) → Later vs k a

@@ -8,7 +8,8 @@ use Rattle.rings.specs.Held.{held}
 use Rattle.rings.proofs.first_bad_ring.Given as goal
 
 abbrev pub invariant-loop-i : goal.invariant-loop-i
-invariant-loop-i l = (l.b ≤ l.i) × (l.i ≤ l.e) × (first_bad (held l.at l.ents) l.u ≡ first (l.i - l.b) (l.e - l.b - (l.i - l.b)) (is_bad (held l.at l.ents) l.u))
+invariant-loop-i l = (l.b ≤ l.i) × (l.i ≤ l.e)
+    × (first_bad (held l.at l.ents) l.u ≡ first (l.i - l.b) (l.e - l.b - (l.i - l.b)) (is_bad (held l.at l.ents) l.u))
 
 abbrev pub decreases-loop-i : goal.decreases-loop-i
 decreases-loop-i l = l.e - l.i

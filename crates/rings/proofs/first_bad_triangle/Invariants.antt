@@ -9,13 +9,15 @@ use Rattle.rings.specs.Held.{held}
 use Rattle.rings.proofs.first_bad_triangle.Given as goal
 
 abbrev pub invariant-loop-i : goal.invariant-loop-i
-invariant-loop-i l = (l.b ≤ l.i) × (l.i ≤ l.e) × (all_next (λ v w. follows (held l.at l.ents) v w l.u) (drop (l.i - l.b) (around (slice l.b l.e l.ents))) ≡ triangle_rule (held l.at l.ents) l.u)
+invariant-loop-i l = (l.b ≤ l.i) × (l.i ≤ l.e)
+    × (all_next (λ v w. follows (held l.at l.ents) v w l.u) (drop (l.i - l.b) (around (slice l.b l.e l.ents))) ≡ triangle_rule (held l.at l.ents) l.u)
 
 abbrev pub decreases-loop-i : goal.decreases-loop-i
 decreases-loop-i l = l.e - l.i
 
 abbrev pub invariant-names : goal.invariant-names
-invariant-names l = (l.u ≤ l.n) × (first 0 l.n (λ k. not (triangle_rule (held l.at l.ents) k)) ≡ first l.u (l.n - l.u) (λ k. not (triangle_rule (held l.at l.ents) k)))
+invariant-names l = (l.u ≤ l.n)
+    × (first 0 l.n (λ k. not (triangle_rule (held l.at l.ents) k)) ≡ first l.u (l.n - l.u) (λ k. not (triangle_rule (held l.at l.ents) k)))
 
 abbrev pub decreases-names : goal.decreases-names
 decreases-names l = l.n - l.u

@@ -13,7 +13,8 @@ loop-done-preserved g c =
     let room = length old - from in
     let within = c.loop-done.invariant.0 in
     let part = read_part from room c.in-Ok.n old c.read.new.buf within c.in-Ok.ensures.bound.0 in
-    let joined = take_split from (from + c.in-Ok.n) old (put_mid from room old c.read.new.buf) (omega arith) (take-put_mid_below _ _ _ _ _ (le_refl _) within) in (
+    let kept = take-put_mid_below _ _ _ _ _ (le_refl _) within in
+    let joined = take_split from (from + c.in-Ok.n) old (put_mid from room old c.read.new.buf) (omega arith) kept in (
       search rules,
       subst (Consumes _ _) (ap (λ l. take from old ++ l) (sym part) ∙ joined) (Consumes-trans _ _ _ _ _ c.loop-done.invariant.1 c.in-Ok.ensures.bytes.0),
     )
