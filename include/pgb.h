@@ -1,4 +1,4 @@
-/* Itunguzafe: the wiring-sheet unit's three services. Link target/staticlib/libcapi.a (made by tests/build).
+/* Itunguzafe: the wiring-sheet unit's three services. Link target/staticlib/libcapi.a (made by `tests/build capi`).
  *
  * Every call is defined for every block, stage, name and buffer length: nothing needs to be checked first. A caller must not hand a null
  * pointer (an empty block or buffer is a length of 0 with any non-null pointer), nor a length beyond what the pointer has, nor a buffer that
