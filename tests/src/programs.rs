@@ -133,7 +133,7 @@ impl Programs {
                 let path = path.display();
                 let all = NAMES.join(" ");
                 return Err(format!(
-                    "there is no program {path}: run 'rt check {all}' first, or set PGB_BIN"
+                    "there is no program {path}: run 'tests/build {all}' first, or set PGB_BIN"
                 ));
             }
         }
