@@ -35,6 +35,11 @@ whole t b e after h q =
     let is : after ≡ t ++ drop (length t) b = ap (λ (f : Filling). f.1) q ∙ ap (λ (l : List ℕ). l ++ drop (length t) b) (take_all (length b) t h) in
     (omega (arith, end, ap length is, length-append t (drop (length t) b)), rw (is, end) (take_at t (drop (length t) b) (length t) refl))
 
+-- and so does one that is as long as the longest text
+pub held : (t b : List ℕ) (e : ℕ) (after : List ℕ) (longest : ℕ) → length t ≤ longest → longest ≡ length b → filling e after ≡ filled_with t b
+    → (e ≤ length after) × (take e after ≡ t)
+held t b e after longest h r q = whole t b e after (omega (arith, h, r)) q
+
 -- ---- pieces
 
 pub six : (n : ℕ) → n < 100000 → length (spaced n) ≤ 6

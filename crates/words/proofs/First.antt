@@ -1,5 +1,6 @@
 -- What "the first one that" is: not before the test holds, and where it does. A loop over i below e has `first i (e - i)` left to find.
-use Rattle.std.proofs.Common.{◌≡◌, ℕ, zero, suc, ◌+◌, ◌-◌, ◌<◌, ◌≤◌, Bool, true, false, sym, refl, ◌∙◌, true≢false, add-one, arith, ltb-false, ltb-true, le-ltb, lt-ltb}
+use Rattle.std.proofs.Common.{◌≡◌, ℕ, zero, suc, ◌+◌, ◌-◌, ◌<◌, ◌≤◌, Bool, true, false, sym, refl, ◌∙◌, true≢false, add-one, arith}
+use Rattle.std.proofs.Common.{ltb-false, ltb-true, le-ltb, lt-ltb}
 use native.Mathlib.Decide.{ℕ_discrete, dec_lt}
 use Rattle.words.specs.First.{first, some}
 

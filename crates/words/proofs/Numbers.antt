@@ -1,5 +1,6 @@
 -- Laws of numbers in bytes: the sum and the 16-bit numbers of one more place.
-use Rattle.std.proofs.Common.{◌≡◌, ℕ, zero, suc, ◌+◌, ◌*◌, ◌<◌, ◌≤◌, List, [], ◌∷◌, ◌++◌, length, get_or, take, drop, refl, ap, ◌∙◌, add-one, arith, take-append-drop, take-suc}
+use Rattle.std.proofs.Common.{◌≡◌, ℕ, zero, suc, ◌+◌, ◌*◌, ◌<◌, ◌≤◌, List, [], ◌∷◌, ◌++◌, length, get_or, take, drop, refl, ap, ◌∙◌}
+use Rattle.std.proofs.Common.{add-one, arith, take-append-drop, take-suc}
 use Rattle.words.specs.Numbers.{word_at, words_at, sum_of}
 
 pub sum_append : (l m : List ℕ) → sum_of (l ++ m) ≡ sum_of l + sum_of m

@@ -1,5 +1,7 @@
 -- Earlier and later positions of an order, as lists and by positions.
-use Rattle.std.proofs.Common.{◌≡◌, ℕ, zero, suc, ◌+◌, ◌-◌, ◌<◌, ◌≤◌, Bool, true, false, eqb, List, [], ◌∷◌, ◌++◌, length, get_or, take, drop, sym, refl, ap, ◌∙◌, inl, inr, true≢false, arith, length-drop, take-append-drop, get_or-drop, drop-cons, take-suc, eq-eqb, eqb-true}
+use Rattle.std.proofs.Common.{◌≡◌, ℕ, zero, suc, ◌+◌, ◌-◌, ◌<◌, ◌≤◌, Bool, true, false, eqb, List, [], ◌∷◌, ◌++◌, length, get_or, take}
+use Rattle.std.proofs.Common.{drop, sym, refl, ap, ◌∙◌, inl, inr, true≢false, arith, length-drop, take-append-drop, get_or-drop, drop-cons}
+use Rattle.std.proofs.Common.{take-suc, eq-eqb, eqb-true}
 use native.Mathlib.Decide.{dec_lt}
 use Rattle.words.specs.Lists.{In, Different}
 use Rattle.words.specs.Positions.{post, earlier, later, position_of, Earlier, Later}

@@ -1,5 +1,6 @@
 -- What the tests over a list say, and the other way round. `T b` is "the test b holds".
-use Rattle.std.proofs.Common.{◌≡◌, ℕ, zero, suc, ◌+◌, ◌<◌, ◌≤◌, Bool, true, false, cond, not, ◌&&◌, ◌||◌, T, eqb, List, [], ◌∷◌, ◌++◌, length, get_or, sym, refl, ap, ◌∙◌, inl, inr, arith, eqb→eq, T_not}
+use Rattle.std.proofs.Common.{◌≡◌, ℕ, zero, suc, ◌+◌, ◌<◌, ◌≤◌, Bool, true, false, cond, not, ◌&&◌, ◌||◌, T, eqb, List, [], ◌∷◌, ◌++◌}
+use Rattle.std.proofs.Common.{length, get_or, sym, refl, ap, ◌∙◌, inl, inr, arith, eqb→eq, T_not}
 use lib.Dec.{eqb_refl, not_T}
 use Rattle.words.specs.Lists.{In, Different, mem, all_of, any_of, count}
 use Rattle.words.proofs.Lists.{Once}

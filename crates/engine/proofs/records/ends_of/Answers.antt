@@ -4,7 +4,7 @@ use Rattle.engine.proofs.records.ends_of.Goals as goal
 
 pub returns-then-j-lt3 : goal.returns-then-j-lt3
 returns-then-j-lt3 c =
-    first_two _ _ _ c.requires.0 _ _ c.requires.1 _ c.requires.2 c.requires.3 c.if-j-lt3.true
+    first_two _ _ _ c.requires.0 _ _ c.requires.1 _ c.requires.2 c.requires.3 (omega arith)
 
 pub of_run-requires : goal.of_run-requires
 of_run-requires c =
