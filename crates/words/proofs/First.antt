@@ -1,8 +1,10 @@
 -- What "the first one that" is: not before the test holds, and where it does. A loop over i below e has `first i (e - i)` left to find.
-use Rattle.std.proofs.Common.{◌≡◌, ℕ, zero, suc, ◌+◌, ◌-◌, ◌<◌, ◌≤◌, Bool, true, false, sym, refl, ◌∙◌, true≢false, add-one, arith}
-use Rattle.std.proofs.Common.{ltb-false, ltb-true, le-ltb, lt-ltb}
+use Rattle.std.proofs.Common.{◌≡◌, ℕ, zero, suc, ◌+◌, ◌-◌, ◌<◌, ◌≤◌, Bool, true, false, Some, None, List, length, get_or, sym, refl, ◌∙◌}
+use Rattle.std.proofs.Common.{true≢false, add-one, zero-add, arith, ltb-false, ltb-true, le-ltb, lt-ltb}
 use native.Mathlib.Decide.{ℕ_discrete, dec_lt}
-use Rattle.words.specs.First.{first, some}
+use Rattle.std.specs.List.{position, position_or_len}
+use Rattle.std.proofs.lemmas.List.Sums.{position_or_len_is}
+use Rattle.words.specs.First.{first, some, first_if}
 
 -- r is the first of the k numbers from i on for which p holds, or i + k
 pub record IsFirst (i k : ℕ) (p : ℕ → Bool) (r : ℕ) : Type 0 where
@@ -103,3 +105,76 @@ first_same p q i (suc k) h = go (q i) refl (first_same p q (suc i) k (λ j a b. 
     go : (b : Bool) → q i ≡ b → first (suc i) k p ≡ first (suc i) k q → first i (suc k) p ≡ first i (suc k) q
     go true e r = first_true p i k (here ∙ e) ∙ sym (first_true q i k e)
     go false e r = first_false p i k (here ∙ e) ∙ r ∙ sym (first_false q i k e)
+
+-- ---- the first, if there is one
+
+module _ (p : ℕ → Bool) where
+  -- an answer that says there is one, and one that says there is none
+  pub first_if_some : (i k r : ℕ) → Some r ≡ first_if i k p → (r ≡ first i k p) × (r < i + k)
+  unfolding first_if some
+  first_if_some i k r e = go (dec_lt (first i k p) (i + k))
+    where
+      go : Dec (first i k p < i + k) → (r ≡ first i k p) × (r < i + k)
+      go (yes h) =
+          let s : Some r ≡ Some (first i k p) = rw (lt-ltb (first i k p) (i + k) h) at e in
+          let q : r ≡ first i k p = cc in
+          (q, omega arith)
+      go (no n) =
+          let s : Some r ≡ None = rw (le-ltb (first i k p) (i + k) (omega arith)) at e in
+          absurd (cc)
+
+  pub first_if_none : (i k : ℕ) → None ≡ first_if i k p → i + k ≡ first i k p
+  unfolding first_if some
+  first_if_none i k e = go (dec_lt (first i k p) (i + k))
+    where
+      go : Dec (first i k p < i + k) → i + k ≡ first i k p
+      go (yes h) =
+          let s : None ≡ Some (first i k p) = rw (lt-ltb (first i k p) (i + k) h) at e in
+          absurd (cc)
+      go (no n) = omega (arith, (first_is p k i).to)
+
+  -- what is the first is what `first` gives
+  pub is_first : (i k : ℕ) {r : ℕ} → IsFirst i k p r → r ≡ first i k p
+  is_first i k {r} F = go (dec_lt r (first i k p)) (dec_lt (first i k p) r)
+    where
+      G : IsFirst i k p (first i k p)
+      G = first_is p k i
+
+      go : Dec (r < first i k p) → Dec (first i k p < r) → r ≡ first i k p
+      go (yes h) d = absurd (true≢false (sym (F.there (omega (arith, h, G.to))) ∙ G.before r F.from h))
+      go (no n) (yes h) = absurd (true≢false (sym (G.there (omega (arith, h, F.to))) ∙ F.before (first i k p) G.from h))
+      go (no n) (no m) = omega arith
+
+  -- a search that finds one at r, and one that finds none
+  pub found_first : (i k r : ℕ) → i ≤ r → r < i + k → ((j : ℕ) → i ≤ j → j < r → p j ≡ false) → p r ≡ true → Some r ≡ first_if i k p
+  unfolding first_if some
+  found_first i k r from to before there =
+      let F : IsFirst i k p r = record { from = from; to = omega arith; before = before; there = λ h. there } in
+      rw (← is_first i k F, lt-ltb r (i + k) to)
+
+  pub found_none : (i k : ℕ) → ((j : ℕ) → i ≤ j → j < i + k → p j ≡ false) → None ≡ first_if i k p
+  unfolding first_if some
+  found_none i k before =
+      let F : IsFirst i k p (i + k) = record { from = omega arith; to = omega arith; before = before; there = λ h. absurd (omega arith) } in
+      rw (← is_first i k F, le-ltb (i + k) (i + k) (omega arith))
+
+  -- by what `first` gives
+  pub some_first_if : (i k r : ℕ) → r ≡ first i k p → r < i + k → Some r ≡ first_if i k p
+  unfolding first_if some
+  some_first_if i k r q h = rw (← q, lt-ltb r (i + k) h) refl
+
+  pub none_first_if : (i k : ℕ) → i + k ≡ first i k p → None ≡ first_if i k p
+  unfolding first_if some
+  none_first_if i k q = rw (← q, le-ltb (i + k) (i + k) (omega arith)) refl
+
+  -- of a list's places, it is where the first entry that passes stands
+  pub first_place : (xs : List ℕ) → position_or_len p xs ≡ first 0 (length xs) (λ u. p (get_or xs u 0))
+  first_place xs =
+      let q = λ (u : ℕ). p (get_or xs u 0) in
+      let F = first_is q (length xs) 0 in
+      let there : first 0 (length xs) q < length xs → q (first 0 (length xs) q) ≡ true = λ h. F.there (omega arith) in
+      position_or_len_is p xs (first 0 (length xs) q) 0 (omega (arith, F.to)) (λ j h. F.before j (omega arith) h) there
+
+  pub first_position : (xs : List ℕ) → position p xs ≡ first_if 0 (length xs) (λ u. p (get_or xs u 0))
+  unfolding first_if some
+  first_position xs = rw (zero-add, first_place xs) refl

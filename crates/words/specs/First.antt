@@ -1,5 +1,5 @@
 -- "The first one that ..": the least of some numbers in turn for which a test holds.
-use Rattle.std.specs.Prelude.{ℕ, zero, suc, ◌+◌, Bool, true, false, List, [], ◌∷◌, nat_lt}
+use Rattle.std.specs.Prelude.{ℕ, zero, suc, ◌+◌, Bool, true, false, cond, Option, Some, None, List, [], ◌∷◌, nat_lt}
 
 -- the k numbers from i on
 unfoldable pub numbers : ℕ → ℕ → List ℕ
@@ -14,3 +14,7 @@ first i (suc k) p = elim (p i) [ true ↦ i | false ↦ first (suc i) k p ]
 -- there is one
 unfoldable pub some : ℕ → ℕ → (ℕ → Bool) → Bool
 some i k p = nat_lt (first i k p) (i + k)
+
+-- it, if there is one
+unfoldable pub first_if : ℕ → ℕ → (ℕ → Bool) → Option ℕ
+first_if i k p = cond (some i k p) (Some (first i k p)) None

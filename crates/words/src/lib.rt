@@ -4,51 +4,33 @@
 ghost use Rattle.std.specs.Prelude.{◌≡◌, ◌+◌, ◌*◌, ◌<◌, ◌≤◌, length, take};
 ghost use Rattle.words.specs.Numbers.{word_at, words_at, wrapped};
 
-fn wide(b: u8) -> u16
-    ensures { (result ≡ b) × (result < 256) }
-{
-    b as u16
-}
-
-// A 16-bit number as a place or a count.
-pub fn number(x: u16) -> usize
-    ensures { (result ≡ x) × (result < 65536) }
-{
-    x as usize
-}
-
 // The 16-bit number whose high byte stands at i.
 pub fn word(s: &[u8], i: usize) -> u16
     requires { i + 1 < length s.now }
     ensures { result ≡ word_at s.now i }
 {
-    let high = wide(s[i]);
-    let low = wide(s[i + 1]);
-    high * 256 + low
+    u16::from_be_bytes([s[i], s[i + 1]])
 }
 
-// The sum of the bytes before the end e, wrapped at 65,536.
-pub fn sum(s: &[u8], e: usize) -> u16
-    requires { e ≤ length s.now }
-    ensures { result ≡ wrapped (take e s.now) }
+// The sum of the bytes, wrapped at 65,536. It runs in 16 bits, by an add that wraps, as the paper has it.
+#[tactic(auto, using(crate::proofs::Numbers::sums))]
+pub fn sum(s: &[u8]) -> u16
+    ensures { result ≡ wrapped s.now }
 {
     let mut sum: u16 = 0;
-    let mut i = 0;
-    while i < e {
-        sum = std::num::wrapping_add_u16(sum, wide(s[i]));
-        i += 1;
+    for b in s {
+        sum = sum.wrapping_add(u16::from(*b));
     }
     sum
 }
 
-// The first n entries of `out` become the n 16-bit numbers from byte i on.
-pub fn unpack(s: &[u8], i: usize, n: usize, out: &mut [u16])
-    requires { (i + 2 * n ≤ length s.now) × (n ≤ length out.old) × (i + 2 * n ≤ 1000000) }
-    ensures { take n out.new ≡ words_at s.now i n }
+// `out` becomes the 16-bit numbers from byte i on.
+#[tactic(auto, using(crate::proofs::Numbers::unpacking))]
+pub fn unpack(s: &[u8], i: usize, out: &mut [u16])
+    requires { i + 2 * length out.old ≤ length s.now }
+    ensures { out.new ≡ words_at s.now i (length out.old) }
 {
-    let mut k = 0;
-    while k < n {
-        out[k] = word(s, i + 2 * k);
-        k += 1;
+    for (k, x) in out.iter_mut().enumerate() {
+        *x = word(s, i + 2 * k);
     }
 }
