@@ -2,12 +2,13 @@
 #![tactic(auto)]
 
 ghost use Rattle.std.specs.Prelude.{◌≡◌, false, ℕ, ◌+◌, ◌*◌, ◌-◌, ◌≤◌, ◌<◌, length, get_or, take};
-ghost use Rattle.words.specs.First.{first};
+ghost use Rattle.words.specs.First.{first_if};
 ghost use Rattle.words.specs.Numbers.{sum_of};
 ghost use Rattle.block.specs.Layout.{limit, bias, degrees_at, lists_at, entries, sum_at, size};
 ghost use Rattle.block.specs.Block.{order, degrees, Headed, marked, bad_entry, bad_degree};
 
-// A block's number of posts, which fixes where its parts begin.
+// A block's number of posts, which fixes where its parts begin. Its range stays in the contracts and is no invariant: the type is public,
+// degrees_at and lists_at answer below 3 too, and who builds a Block would be asked more than before.
 #[derive(Clone, Copy)]
 pub struct Block {
     pub n: usize,
@@ -77,58 +78,42 @@ impl Block {
 }
 
 // The mark PGB stands at the beginning.
+#[tactic(auto, using(crate::proofs::Laws::mark_starts))]
 pub fn is_marked(s: &[u8]) -> bool
     requires { 7 ≤ length s.now }
     ensures { result ≡ marked s.now }
 {
-    if s[0] != 0x50 {
-        return false;
-    }
-    if s[1] != 0x47 {
-        return false;
-    }
-    s[2] == 0x42
+    s.starts_with(b"PGB")
 }
 
-// The first position at fault (N7), or n + 1. The names seen so far are marked.
-pub fn first_bad_entry(vs: &[u16], marks: &mut [u8]) -> usize
+// The first position at fault (N7), if there is one. The names seen so far are marked, a byte for each name, as the paper has it.
+pub fn first_bad_entry(vs: &[u16], marks: &mut [u8]) -> Option<u16>
     requires { (length vs.now ≤ length marks.old) × (length vs.now ≤ limit) × ((a : ℕ) → get_or marks.old a 0 ≡ 0) }
-    ensures { result ≡ first 1 (length vs.now) (bad_entry (length vs.now) vs.now) }
+    ensures { result ≡ first_if 1 (length vs.now) (bad_entry (length vs.now) vs.now) }
 {
     let n = vs.len();
-    let mut k = 1;
-    while k <= n {
-        let a = words::number(vs[k - 1]);
-        if n <= a {
-            return k;
-        }
-        if marks[a] == 1 {
-            return k;
+    for (i, v) in vs.iter().enumerate() {
+        let a = usize::from(*v);
+        if n <= a || marks[a] == 1 {
+            return Some(i as u16 + 1);
         }
         marks[a] = 1;
-        k += 1;
     }
-    k
+    None
 }
 
-// The lowest name whose degree is out of its range (N8), or n.
-pub fn first_bad_degree(ds: &[u16]) -> usize
+// The lowest name whose degree is out of its range (N8), if there is one.
+pub fn first_bad_degree(ds: &[u16]) -> Option<u16>
     requires { (1 ≤ length ds.now) × (length ds.now ≤ limit) }
-    ensures { result ≡ first 0 (length ds.now) (bad_degree (length ds.now) ds.now) }
+    ensures { result ≡ first_if 0 (length ds.now) (bad_degree (length ds.now) ds.now) }
 {
     let n = ds.len();
-    let mut u = 0;
-    while u < n {
-        let d = words::number(ds[u]);
-        if d < 2 {
-            return u;
+    for (u, d) in ds.iter().enumerate() {
+        if !(2..n).contains(&usize::from(*d)) {
+            return Some(u as u16);
         }
-        if n - 1 < d {
-            return u;
-        }
-        u += 1;
     }
-    u
+    None
 }
 
 // The degrees' total.
@@ -136,60 +121,55 @@ pub fn total(ds: &[u16]) -> usize
     requires { length ds.now ≤ limit }
     ensures { result ≡ sum_of ds.now }
 {
-    let mut t = 0;
-    let mut u = 0;
-    while u < ds.len() {
-        t += words::number(ds[u]);
-        u += 1;
-    }
-    t
+    ds.iter().map(|d| usize::from(*d)).sum()
 }
 
 // Where each list begins among all entries, and after the last where it ends.
+#[tactic(auto, using(words::proofs::Numbers::sums))]
 pub fn starts(ds: &[u16], at: &mut [u16])
     requires { (length ds.now < length at.old) × (sum_of ds.now ≤ 65535) }
     ensures { (u : ℕ) → u ≤ length ds.now → get_or at.new u 0 ≡ sum_of (take u ds.now) }
 {
     let mut t = 0;
-    let mut u = 0;
-    while u < ds.len() {
+    for (u, d) in ds.iter().enumerate() {
         at[u] = t;
-        t += ds[u];
-        u += 1;
+        t += *d;
     }
-    at[u] = t;
+    at[ds.len()] = t;
 }
 
-// Room for a number for each name.
-pub fn no_names() -> [u16; Block::LIMIT]
-    ensures { limit ≤ length result }
-{
-    [0u16; Block::LIMIT]
+// A block's bytes where its number of posts and its length are right, so that all its parts lie within.
+#[derive(Clone, Copy)]
+pub struct Body<'a> {
+    pub bytes: &'a [u8],
+    pub block: Block,
+    pub ghost headed: { Headed bytes.now block.n },
 }
 
-fn no_marks() -> [u8; Block::LIMIT]
-    ensures { (limit ≤ length result) × ((a : ℕ) → get_or result a 0 ≡ 0) }
-{
-    [0u8; Block::LIMIT]
-}
+impl Body<'_> {
+    // Step 7: vs becomes the order; the first position at fault, if there is one. Step 8 below has another offset, another test and another
+    // definition, and the two lines that they share are calls: one generic function would be no plainer.
+    #[tactic(auto, using(words::proofs::Numbers::unpacking), unfolding(crate::specs::Block::order))]
+    pub fn read_order(self, vs: &mut [u16]) -> Option<u16>
+        requires { limit ≤ length vs.old }
+        ensures read { take self.entry.block.n vs.new ≡ order self.entry.bytes.now }
+        ensures fault { result ≡ first_if 1 self.entry.block.n (bad_entry self.entry.block.n (order self.entry.bytes.now)) }
+    {
+        let names = &mut vs[..self.block.n];
+        words::unpack(self.bytes, Block::ORDER_AT, names);
+        let mut marks = [0; Block::LIMIT];
+        first_bad_entry(names, &mut marks)
+    }
 
-// Step 7: vs becomes the order; the first position at fault, or n + 1.
-pub fn read_order(s: &[u8], b: Block, vs: &mut [u16]) -> usize
-    requires { Headed s.now b.n × (limit ≤ length vs.old) }
-    ensures { (take b.n vs.new ≡ order s.now) × (result ≡ first 1 b.n (bad_entry b.n (order s.now))) }
-{
-    let n = b.n;
-    words::unpack(s, Block::ORDER_AT, n, vs);
-    let mut marks = no_marks();
-    first_bad_entry(&vs[..n], &mut marks)
-}
-
-// Step 8, the degrees one by one: ds becomes the degrees; the lowest name at fault, or n.
-pub fn read_degrees(s: &[u8], b: Block, ds: &mut [u16]) -> usize
-    requires { Headed s.now b.n × (limit ≤ length ds.old) }
-    ensures { (take b.n ds.new ≡ degrees s.now) × (result ≡ first 0 b.n (bad_degree b.n (degrees s.now))) }
-{
-    let n = b.n;
-    words::unpack(s, b.degrees_at(), n, ds);
-    first_bad_degree(&ds[..n])
+    // Step 8, the degrees one by one: ds becomes the degrees; the lowest name at fault, if there is one.
+    #[tactic(auto, using(words::proofs::Numbers::unpacking), unfolding(crate::specs::Block::degrees))]
+    pub fn read_degrees(self, ds: &mut [u16]) -> Option<u16>
+        requires { limit ≤ length ds.old }
+        ensures read { take self.entry.block.n ds.new ≡ degrees self.entry.bytes.now }
+        ensures fault { result ≡ first_if 0 self.entry.block.n (bad_degree self.entry.block.n (degrees self.entry.bytes.now)) }
+    {
+        let degrees = &mut ds[..self.block.n];
+        words::unpack(self.bytes, self.block.degrees_at(), degrees);
+        first_bad_degree(degrees)
+    }
 }

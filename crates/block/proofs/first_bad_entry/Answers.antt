@@ -1,48 +1,32 @@
-use native.Mathlib.Omega.{arith}
-use Prim.Native.Nat.{◌+◌, ◌-◌}
-use mathlib.Core.Path.{◌≡◌, refl, sym, ◌∙◌}
-use lib.ListN.{length}
-use Rattle.words.proofs.First.{first_here, first_next, first_end}
-use Rattle.block.proofs.Laws.{entry_high, entry_low, unmarked, seen, unseen, mark_more}
-use borrow.Author.Rules.{rules}
+use Rattle.std.proofs.Common.{◌≡◌, ◌+◌, arith, true, below_more, length}
+use Rattle.std.proofs.lemmas.Bool.Decides.{nat_tests}
+use Rattle.words.proofs.First.{found_first, found_none}
+use Rattle.block.specs.Block.{bad_entry}
+use Rattle.block.proofs.Laws.{entry_test, unmarked, mark_more}
 use Rattle.block.proofs.first_bad_entry.Goals as goal
+use Rattle.block.proofs.first_bad_entry.Goals.{then-n-a-via-then-n-a, then-n-a-via-else-n-a+then-marks-a-eq1}
 
-pub loop-k-init : goal.loop-k-init
-loop-k-init c =
-    let a = c.args in
-    let e : length a.vs.now + 1 - 1 ≡ length a.vs.now = omega arith in
-    (search rules, search rules, search rules, unmarked a.vs.now a.marks.now c.requires.2, rw e refl)
+pub loop-i-init : goal.loop-i-init
+loop-i-init c = record { marked = unmarked _ _ c.requires.2; before = λ j h k. absurd (omega arith) }
 
 pub returns-then-n-a : goal.returns-then-n-a
 returns-then-n-a c =
-    let v = c.loop-k in
     let l = c.args.vs.now in
-    sym (v.invariant.4 ∙ first_here _ v.k (length l + 1) (omega arith) (entry_high (length l) l v.k (omega arith)))
+    let k = c.loop-i.i + 1 in
+    let test = entry_test l c.loop-i.marks c.loop-i.i c.from-a.result c.from-a.ensures c.loop-i.invariant.marked in
+    let bad : bad_entry (length l) l k ≡ true =
+    elim c.then-n-a.branch [ then-n-a-via-then-n-a w ↦ grind (arith, nat_tests) | then-n-a-via-else-n-a+then-marks-a-eq1 w ↦ grind (arith, nat_tests) ] in
+    found_first _ 1 (length l) k (omega arith) (omega arith) (λ j g h. c.loop-i.invariant.before j h g) bad
 
-pub returns-then-marks-a-eq1 : goal.returns-then-marks-a-eq1
-returns-then-marks-a-eq1 c =
-    let number = c.number-a in
-    let v = c.loop-k in
+pub loop-i-preserved : goal.loop-i-preserved
+loop-i-preserved c =
     let l = c.args.vs.now in
-    let again = seen l v.marks v.k number.result number.ensures.0 v.invariant.3 (omega arith) c.if-marks-a-eq1.true in
-    sym (v.invariant.4 ∙ first_here _ v.k (length l + 1) (omega arith) (entry_low (length l) l v.k (omega arith) ∙ again))
-
-pub loop-k-preserved : goal.loop-k-preserved
-loop-k-preserved c =
-    let number = c.number-a in
-    let v = c.loop-k in
-    let l = c.args.vs.now in
-    let e = number.ensures.0 in
-    let new = unseen l v.marks v.k number.result e v.invariant.3 (omega arith) c.if-marks-a-eq1.false in (
-      search rules,
-      search rules,
-      search rules,
-      mark_more l v.marks v.k number.result e v.invariant.3 (omega arith) (omega arith) (omega arith),
-      v.invariant.4 ∙ first_next _ v.k (length l + 1) (omega arith) (entry_low (length l) l v.k (omega arith) ∙ new),
-    )
+    let is = c.from-a.ensures in
+    let marked = c.loop-i.invariant.marked in
+    let test = entry_test l c.loop-i.marks c.loop-i.i c.from-a.result is marked in record {
+      marked = mark_more l c.loop-i.marks c.loop-i.i c.from-a.result is marked (omega arith) (omega arith);
+      before = below_more _ _ c.loop-i.invariant.before (λ _. grind (arith, nat_tests));
+    }
 
 pub returns : goal.returns
-returns c =
-    let v = c.loop-k in
-    let l = c.args.vs.now in
-    sym (v.invariant.4 ∙ first_end _ v.k (length l + 1) (omega arith))
+returns c = found_none _ 1 (length c.args.vs.now) (λ j g h. c.loop-i.invariant.before j (omega arith) g)

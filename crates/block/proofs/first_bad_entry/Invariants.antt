@@ -1,14 +1,10 @@
-use Prim.Native.Nat.{◌≤◌, ◌+◌, ◌-◌}
-use mathlib.Core.Path.{◌≡◌}
-use lib.ListN.{length}
-use Rattle.words.specs.First.{first}
+use Rattle.std.proofs.Common.{◌≡◌, ℕ, ◌+◌, ◌<◌, ◌≤◌, false, length}
 use Rattle.block.specs.Block.{bad_entry}
 use Rattle.block.proofs.Laws.{Marked}
 use Rattle.block.proofs.first_bad_entry.Given as goal
 
-abbrev pub invariant-loop-k : goal.invariant-loop-k
-invariant-loop-k l = (1 ≤ l.k) × (l.k ≤ length l.vs + 1) × (length l.marks ≡ length l.initial.marks) × Marked l.vs l.marks l.k
-    × (first 1 (length l.vs) (bad_entry (length l.vs) l.vs) ≡ first l.k (length l.vs + 1 - l.k) (bad_entry (length l.vs) l.vs))
-
-abbrev pub decreases-loop-k : goal.decreases-loop-k
-decreases-loop-k l = length l.vs + 1 - l.k
+abbrev pub invariant-loop-i : goal.invariant-loop-i
+invariant-loop-i l = record {
+  marked : Marked l.vs l.marks (l.i + 1);
+  before : (j : ℕ) → j < l.i + 1 → 1 ≤ j → bad_entry (length l.vs) l.vs j ≡ false;
+}
