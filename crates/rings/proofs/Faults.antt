@@ -1,15 +1,18 @@
 -- A list has no bad entry exactly if it keeps the ring rule; which fault an entry has, by what the code compared; and the loop over a list.
-use Prim.Native.Nat.{ℕ, zero, suc, ◌+◌, ◌-◌, ◌≤◌, ◌<◌}
+use Prim.Native.Nat.{ℕ, ◌+◌, ◌-◌, ◌≤◌, ◌<◌}
 use mathlib.Core.Path.{◌≡◌, refl, sym, ap, ◌∙◌, subst}
 use mathlib.Core.Logic.{◌≢◌}
 use mathlib.Core.Bool.{Bool, true, false, not, cond, ◌||◌, true≢false}
-use mathlib.Core.List.{List, [], ◌∷◌}
+use mathlib.Core.List.{List}
 use native.Mathlib.Omega.{arith}
 use native.Mathlib.Decide.{dec_lt}
+use native.Mathlib.Nat.{sub-zero}
 use lib.Dec.{leb, eqb}
-use lib.ListN.{length, get_or, take, drop}
-use lib.Seq.{slice, take-take, take-nil, length-slice}
+use lib.ListN.{length, get_or, take}
 use borrow.Author.Tests.{lt-ltb, le-ltb, le-leb, lt-leb, leb-false, eq-eqb, ne_eqb, eqb-false, not-false}
+use Rattle.std.specs.Prelude.{Result, Ok, Err}
+use Rattle.std.specs.List.{list_any}
+use Rattle.std.specs.Result.{is_err}
 use Rattle.words.specs.First.{first}
 use Rattle.words.specs.Lists.{In, Different, mem}
 use Rattle.words.proofs.First.{IsFirst, first_is, first_here, first_next, first_end}
@@ -18,11 +21,10 @@ use Rattle.words.proofs.Positions.{in_take, take_in}
 use Rattle.rings.specs.Rings.{ring, ring_rule}
 use Rattle.rings.specs.Faults.{entry, is_high, is_itself, is_repeated, is_unreturned, is_bad, first_bad}
 use Rattle.rings.specs.Found.{fault_at, fault_of}
-use Rattle.rings.specs.Held.{held, Cuts}
-use Rattle.rings.specs.declared.ListFault.TheVariants.{Sound, High, Itself, Repeated, Unreturned}
-use Rattle.rings.proofs.Turns.{part_at}
+use Rattle.rings.specs.declared.ListFault.{ListFault}
+use Rattle.rings.specs.declared.ListFault.TheVariants.{High, Itself, Repeated, Unreturned}
+use Rattle.rings.proofs.Turns.{any_mem}
 use Rattle.rings.proofs.Says.{ring_says, says_ring}
-use Rattle.rings.proofs.Held.{held_length, held_part}
 
 -- ---- what an entry without a fault is, and the ring rule
 
@@ -105,142 +107,74 @@ module _ (G : List (List ℕ)) (u : ℕ) where
       go (yes h) = (h, F.there (omega arith))
       go (no n) = absurd (true≢false (sym (fine_rule (λ i h. F.before i (omega arith) (omega arith))) ∙ e))
 
--- ---- an entry in the code's arrays, by what the code compared
+-- ---- an entry's fault, by what the code compared
 
-take_drop : (b m : ℕ) (l : List ℕ) → take m (drop b l) ≡ drop b (take (b + m) l)
-take_drop zero m l = let e : 0 + m ≡ m = omega arith in rw e refl
-take_drop (suc b) m [] = take-nil m ∙ sym (ap (drop (suc b)) (take-nil (suc b + m)))
-take_drop (suc b) m (x ∷ l) = let e : suc b + m ≡ suc (b + m) = omega arith in rw e (take_drop b m l)
+module _ (G : List (List ℕ)) (u i : ℕ) (l : List ℕ) (el : l ≡ ring G u) where
+  abbrev v : ℕ
+  v = get_or l i 0
 
-part_front : (l : List ℕ) (b e i : ℕ) → b ≤ i → i ≤ e → take (i - b) (slice b e l) ≡ slice b i l
-part_front l b e i h k =
-    let q : b + (i - b) ≡ i = omega arith in
-    take_drop b (i - b) (take e l) ∙ ap (λ (m : ℕ). drop b (take m (take e l))) q ∙ ap (drop b) (take-take i e l k)
+  pub is_high_lem : length G ≤ v → Err (High u) ≡ fault_at G u i
+  unfolding fault_at is_high
+  is_high_lem q = rw (← el, le-leb (length G) v q) refl
 
-module _ (at ents : List ℕ) (C : Cuts at ents) (u b i : ℕ) (is : u + 1 < length at) (eb : b ≡ get_or at u 0) (h : b ≤ i)
-    (k : i < get_or at (u + 1) 0) where
-  abbrev G : List (List ℕ)
-  G = held at ents
+  module _ (low : v < length G) where
+    pub is_itself_lem : v ≡ u → Err (Itself u) ≡ fault_at G u i
+    unfolding fault_at is_high is_itself
+    is_itself_lem q = rw (← el, lt-leb (length G) v low, eq-eqb v u q) refl
 
-  abbrev e : ℕ
-  e = get_or at (u + 1) 0
+    module _ (other : v ≡ u → ⊥) (t : Bool) (et : t ≡ list_any (λ y. eqb y v) (take i l)) where
+      pub is_repeated_lem : t ≡ true → Err (Repeated u) ≡ fault_at G u i
+      unfolding fault_at is_high is_itself is_repeated
+      is_repeated_lem q = rw (← el, lt-leb (length G) v low, ne_eqb v u other, ← any_mem (take i l) v, ← et, q) refl
 
-  within : e ≤ length ents
-  within = C.within (u + 1) is
+      module _ (new : t ≡ false) (r : Bool) (er : r ≡ list_any (λ y. eqb y u) (ring G v)) where
+        last : cond (not r) (Err (Unreturned u)) (Ok tt) ≡ fault_at G u i
+        unfolding fault_at is_high is_itself is_repeated is_unreturned
+        last = rw (← el, lt-leb (length G) v low, ne_eqb v u other, ← any_mem (take i l) v, ← et, new, ← any_mem (ring G v) u, ← er) refl
 
-  list_is : ring G u ≡ slice b e ents
-  list_is = held_part at ents u b e is eb refl
+        pub is_unreturned_lem : r ≡ false → Err (Unreturned u) ≡ fault_at G u i
+        is_unreturned_lem q = rw q at last
 
-  entry_is : entry G u (i - b) ≡ get_or ents i 0
-  entry_is = ap (λ (l : List ℕ). get_or l (i - b) 0) list_is ∙ part_at ents b e i h k within
-
-  before_is : take (i - b) (ring G u) ≡ slice b i ents
-  before_is = ap (take (i - b)) list_is ∙ part_front ents b e i h (omega arith)
-
-  many : length G ≡ length at - 1
-  many = held_length at ents
-
-  module _ (v : ℕ) (ev : v ≡ get_or ents i 0) where
-    pub is_high_lem : length at - 1 ≤ v → High u ≡ fault_at G u (i - b)
-    unfolding fault_at is_high
-    is_high_lem q = rw (entry_is, ← ev, le-leb (length G) v (omega (arith, many))) refl
-
-    module _ (low : v < length at - 1) where
-      pub is_itself_lem : v ≡ u → Itself u ≡ fault_at G u (i - b)
-      unfolding fault_at is_high is_itself
-      is_itself_lem q = rw (entry_is, ← ev, lt-leb (length G) v (omega (arith, many)), eq-eqb v u q) refl
-
-      module _ (other : v ≡ u → ⊥) (t : Bool) (et : t ≡ mem (slice b i ents) v) where
-        pub is_repeated_lem : t ≡ true → Repeated u ≡ fault_at G u (i - b)
-        unfolding fault_at is_high is_itself is_repeated
-        is_repeated_lem q = rw (entry_is, ← ev, lt-leb (length G) v (omega (arith, many)), ne_eqb v u other, before_is, ← et, q) refl
-
-        module _ (new : t ≡ false) (y z : ℕ) (ey : y ≡ get_or at v 0) (ez : z ≡ get_or at (v + 1) 0) (r : Bool) (er : r ≡ mem (slice y z ents) u) where
-          last : cond r Sound (Unreturned u) ≡ fault_at G u (i - b)
-          unfolding fault_at is_high is_itself is_repeated is_unreturned
-          last =
-              rw (
-                entry_is,
-                ← ev,
-                lt-leb (length G) v (omega (arith, many)),
-                ne_eqb v u other,
-                before_is,
-                ← et,
-                new,
-                held_part at ents v y z (omega arith) ey ez,
-                ← er,
-              ) (go r)
-            where
-              go : (r : Bool) → cond r Sound (Unreturned u) ≡ cond (not r) (Unreturned u) Sound
-              go true = refl
-              go false = refl
-
-          pub is_sound : r ≡ true → Sound ≡ fault_at G u (i - b)
-          is_sound q = ap (λ (x : Bool). cond x Sound (Unreturned u)) (sym q) ∙ last
-
-          pub is_unreturned_lem : r ≡ false → Unreturned u ≡ fault_at G u (i - b)
-          is_unreturned_lem q = ap (λ (x : Bool). cond x Sound (Unreturned u)) (sym q) ∙ last
-
--- ---- an entry's fault as the code tells it
-
-fault_bad : (u : ℕ) (a b c d : Bool) → (cond a (High u) (cond b (Itself u) (cond c (Repeated u) (cond d (Unreturned u) Sound))) ≡ Sound → ⊥)
-    → a || (b || (c || d)) ≡ true
-fault_bad u true b c d n = refl
-fault_bad u false true c d n = refl
-fault_bad u false false true d n = refl
-fault_bad u false false false true n = refl
-fault_bad u false false false false n = absurd (n refl)
-
-no_fault : (u : ℕ) (a b c d : Bool) → cond a (High u) (cond b (Itself u) (cond c (Repeated u) (cond d (Unreturned u) Sound))) ≡ Sound
-    → a || (b || (c || d)) ≡ false
-no_fault u true b c d e = absurd (let z : ◌≡◌ {A = ℕ} 0 1 = cc in omega arith)
-no_fault u false true c d e = absurd (let z : ◌≡◌ {A = ℕ} 0 1 = cc in omega arith)
-no_fault u false false true d e = absurd (let z : ◌≡◌ {A = ℕ} 0 1 = cc in omega arith)
-no_fault u false false false true e = absurd (let z : ◌≡◌ {A = ℕ} 0 1 = cc in omega arith)
-no_fault u false false false false e = refl
+        pub is_sound : r ≡ true → Ok tt ≡ fault_at G u i
+        is_sound q = rw q at last
 
 module _ (G : List (List ℕ)) (u i : ℕ) where
-  pub fault_is_bad : (fault_at G u i ≡ Sound → ⊥) → is_bad G u i ≡ true
+  fault_cases : (r : Result Unit ListFault) (a b c d : Bool)
+      → r ≡ cond a (Err (High u)) (cond b (Err (Itself u)) (cond c (Err (Repeated u)) (cond d (Err (Unreturned u)) (Ok tt))))
+      → is_err r ≡ (a || (b || (c || d)))
+  fault_cases r true b c d e = rw e refl
+  fault_cases r false true c d e = rw e refl
+  fault_cases r false false true d e = rw e refl
+  fault_cases r false false false true e = rw e refl
+  fault_cases r false false false false e = rw e refl
+
+  pub fault_bad : (r : Result Unit ListFault) → r ≡ fault_at G u i → is_err r ≡ is_bad G u i
   unfolding fault_at is_bad
-  fault_is_bad n = fault_bad u (is_high G u i) (is_itself G u i) (is_repeated G u i) (is_unreturned G u i) n
+  fault_bad r e = fault_cases r (is_high G u i) (is_itself G u i) (is_repeated G u i) (is_unreturned G u i) e
 
-  pub sound_is_good : fault_at G u i ≡ Sound → is_bad G u i ≡ false
-  unfolding fault_at is_bad
-  sound_is_good e = no_fault u (is_high G u i) (is_itself G u i) (is_repeated G u i) (is_unreturned G u i) e
+-- ---- the loop over u's list: what is left to look at
 
--- ---- the loop over u's list, from b to e: what is left to look at
-
-module _ (at ents : List ℕ) (u b e : ℕ) (is : u + 1 < length at) (eb : b ≡ get_or at u 0) (ee : e ≡ get_or at (u + 1) 0) (in_ents : e ≤ length ents) where
-  abbrev H : List (List ℕ)
-  H = held at ents
-
-  list_length : length (ring H u) ≡ e - b
-  list_length = ap length (held_part at ents u b e is eb ee) ∙ length-slice b e ents in_ents
-
-  pub search_start : first_bad H u ≡ first (b - b) (e - b - (b - b)) (is_bad H u)
+module _ (G : List (List ℕ)) (u : ℕ) (l : List ℕ) (el : l ≡ ring G u) where
+  pub search_start : first_bad G u ≡ first 0 (length l - 0) (is_bad G u)
   unfolding first_bad
-  search_start =
-      let z : b - b ≡ 0 = omega arith in
-      let y : e - b - 0 ≡ length (ring H u) = omega (arith, list_length) in
-      rw (z, y) refl
+  search_start = rw (el, sub-zero) refl
 
-  module _ (i : ℕ) (low : b ≤ i) (so : first_bad H u ≡ first (i - b) (e - b - (i - b)) (is_bad H u)) where
-    pub search_found : i < e → (fault_at H u (i - b) ≡ Sound → ⊥) → (first_bad H u ≡ i - b) × (not (ring_rule H u) ≡ true)
-    search_found h n =
-        let bad = fault_is_bad H u (i - b) n in
-        (so ∙ first_here (is_bad H u) (i - b) (e - b) (omega arith) bad, ap not (bad_breaks H u (i - b) (omega (arith, list_length)) bad))
+  module _ (i : ℕ) (so : first_bad G u ≡ first i (length l - i) (is_bad G u)) where
+    module _ (h : i < length l) (r : Result Unit ListFault) (er : r ≡ fault_at G u i) where
+      pub search_found : is_err r ≡ true → (first_bad G u ≡ i) × (not (ring_rule G u) ≡ true)
+      search_found t =
+          let bad = sym (fault_bad G u i r er) ∙ t in
+          (so ∙ first_here (is_bad G u) i (length l) h bad, ap not (bad_breaks G u i (rw el at h) bad))
 
-    pub search_next : i < e → fault_at H u (i - b) ≡ Sound → first_bad H u ≡ first (i + 1 - b) (e - b - (i + 1 - b)) (is_bad H u)
-    search_next h s =
-        let z : i + 1 - b ≡ i - b + 1 = omega arith in
-        rw z (so ∙ first_next (is_bad H u) (i - b) (e - b) (omega arith) (sound_is_good H u (i - b) s))
+      pub search_next : is_err r ≡ false → first_bad G u ≡ first (i + 1) (length l - (i + 1)) (is_bad G u)
+      search_next t = so ∙ first_next (is_bad G u) i (length l) h (sym (fault_bad G u i r er) ∙ t)
 
-    pub search_done : i ≡ e → not (ring_rule H u) ≡ false
+    pub search_done : i ≡ length l → not (ring_rule G u) ≡ false
     unfolding first_bad
     search_done q =
-        let all : first_bad H u ≡ e - b = so ∙ first_end (is_bad H u) (i - b) (e - b) (omega arith) ∙ ap (λ (j : ℕ). j - b) q in
-        let F = first_is (is_bad H u) (length (ring H u)) 0 in
-        ap not (fine_rule H u (λ j h. F.before j (omega arith) (omega (arith, all, list_length))))
+        let all : first_bad G u ≡ length l = so ∙ first_end (is_bad G u) i (length l) (omega arith) ∙ q in
+        let F = first_is (is_bad G u) (length (ring G u)) 0 in
+        ap not (fine_rule G u (λ j h. F.before j (omega arith) (omega (arith, all, ap length el))))
 
 -- what is told of all lists, by the lowest one that breaks the rule
 module _ (G : List (List ℕ)) (u : ℕ) (eu : first 0 (length G) (λ z. not (ring_rule G z)) ≡ u) where
@@ -248,6 +182,6 @@ module _ (G : List (List ℕ)) (u : ℕ) (eu : first 0 (length G) (λ z. not (ri
   unfolding fault_of
   told_found h = rw (eu, lt-ltb u (length G) h) refl
 
-  pub told_none : length G ≤ u → Sound ≡ fault_of G
+  pub told_none : length G ≤ u → Ok tt ≡ fault_of G
   unfolding fault_of
   told_none h = rw (eu, le-ltb u (length G) h) refl

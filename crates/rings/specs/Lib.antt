@@ -4,3 +4,4 @@ pub mod Faults
 pub mod Found
 pub mod Plane
 pub mod Held
+pub mod Given

@@ -1,32 +1,32 @@
 use native.Mathlib.Omega.{arith}
-use mathlib.Core.Path.{◌≡◌, refl, sym, ◌∙◌}
-use Rattle.rings.specs.Rings.{next}
-use Rattle.rings.proofs.Turns.{around_start, next_turn, next_done}
-use borrow.Author.Rules.{rules}
+use Prim.Native.Nat.{◌-◌}
+use mathlib.Core.Logic.{inl, inr}
+use mathlib.Core.Path.{sym, ◌∙◌}
+use lib.ListN.{length}
+use Rattle.std.proofs.lemmas.Option.{slice_get_within, get_or_from_slice_get}
+use Rattle.rings.proofs.Turns.{next_start, next_none, next_found, next_passed, next_end}
 use Rattle.rings.proofs.is_next.Goals as goal
+use Rattle.rings.proofs.is_next.Goals.{else-before-a-via-then-before-a+else-v-c, else-before-a-via-else-before-a}
 
-pub loop-i-init : goal.loop-i-init
-loop-i-init c =
-    let a = c.args in
-    (search rules, search rules, around_start a.ents.now a.b a.e (omega arith) (omega arith) (next a.a a.c))
+pub returns-in_default : goal.returns-in_default
+returns-in_default c = let e = c.in_default.ensures.item in next_none _ _ _ (omega (arith, e.3))
 
-pub returns-then-linked : goal.returns-then-linked
-returns-then-linked c =
-    let v = c.loop-i in
-    let a = c.args in
-    let turn = next_turn a.ents.now a.b a.e v.i (omega arith) (omega arith) (omega arith) a.a a.c in
-    sym (sym v.invariant.2 ∙ turn ∙ rw (← c.linked.ensures, c.if-linked.true) refl)
+pub loop-v-init : goal.loop-v-init
+loop-v-init c =
+    let l = c.args.list.now in
+    let end = get_or_from_slice_get l (length l - 1) c.in-Some.end.now 0 (sym c.in-Some.ensures.value) in
+    rw (← end) (next_start _ _ l (omega (arith, slice_get_within l (length l - 1) c.in-Some.end.now (sym c.in-Some.ensures.value))))
 
-pub loop-i-preserved : goal.loop-i-preserved
-loop-i-preserved c =
-    let v = c.loop-i in
-    let a = c.args in
-    let turn = next_turn a.ents.now a.b a.e v.i (omega arith) (omega arith) (omega arith) a.a a.c in
-    (search rules, search rules, sym (turn ∙ rw (← c.linked.ensures, c.if-linked.false) refl) ∙ v.invariant.2)
+pub returns-then-v-c : goal.returns-then-v-c
+returns-then-v-c c = sym (next_found _ _ _ c.loop-v.v-index _ (omega arith) c.if-before-a.true c.if-v-c.true) ∙ c.loop-v.invariant
+
+pub loop-v-preserved : goal.loop-v-preserved
+loop-v-preserved c =
+    sym (next_passed _ _ _ c.loop-v.v-index _ (omega arith) (elim c.else-before-a.branch [
+      | else-before-a-via-then-before-a+else-v-c w ↦ inr w.if-v-c.false
+      | else-before-a-via-else-before-a w ↦ inl w.if-before-a.false
+    ]))
+    ∙ c.loop-v.invariant
 
 pub returns : goal.returns
-returns c =
-    let v = c.loop-i in
-    let a = c.args in
-    let q : v.i ≡ a.e = omega arith in
-    sym (sym v.invariant.2 ∙ rw q (next_done a.ents.now a.b a.e (omega arith) (omega arith) a.a a.c))
+returns c = sym (next_end _ _ _ c.loop-v.v-index _ (omega arith)) ∙ c.loop-v.invariant
