@@ -15,7 +15,7 @@ use Rattle.rings.proofs.Around.{After, adj_cut, cut_adj, follows_after, around_i
 use Rattle.rings.proofs.Says.{Faces, faces_plane, entry_other, entry_returned}
 use Rattle.order.specs.Canonical.{Canonical}
 use Rattle.order.proofs.Contour.{Run, Contour}
-use Rattle.order.proofs.Runs.{two_ends}
+use Rattle.order.proofs.NewRun.{two_ends}
 use Rattle.order.proofs.Growth.{Names}
 use Rattle.growth.specs.Co.{Face, ContourWire, ContourPost, ContourList}
 use Rattle.growth.specs.Co.Face.{same, turn, cross}

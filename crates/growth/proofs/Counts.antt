@@ -13,7 +13,7 @@ use Rattle.rings.specs.Rings.{ring, around}
 use Rattle.rings.proofs.Around.{After, around_in, around_next}
 use Rattle.rings.proofs.Says.{Faces, entry_below, entry_other, entry_returned, ring_once}
 use Rattle.order.proofs.Contour.{Rings}
-use Rattle.order.proofs.Runs.{rings}
+use Rattle.order.proofs.NewRun.{rings}
 use Rattle.growth.proofs.Sums.{flag, flag_yes, flag_no, flag_same, sum, sum_same, sum_zero, sum_hit, sum_one_off, sum_cut, darts, corners}
 use Rattle.growth.proofs.Sums.{corners_at, darts_more, corners_more}
 use Rattle.growth.proofs.Walks.{adj_dec}

@@ -19,7 +19,7 @@ use Rattle.rings.proofs.Around.{After, follows_after, around_in}
 use Rattle.rings.proofs.Says.{Faces, faces_plane, entry_below, entry_other, ring_once}
 use Rattle.order.specs.Order.{one_run}
 use Rattle.order.specs.Canonical.{OneRun, Canonical}
-use Rattle.order.proofs.Runs.{rings}
+use Rattle.order.proofs.NewRun.{rings}
 use Rattle.order.proofs.Tests.{run_says}
 use Rattle.order.proofs.Growth.{Names}
 use Rattle.growth.specs.Forced.{Bridging, TwoEach}

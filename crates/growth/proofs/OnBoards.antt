@@ -19,7 +19,7 @@ use Rattle.rings.specs.Plane.{Wire, Plane}
 use Rattle.rings.proofs.Around.{After, follows_after}
 use Rattle.rings.proofs.Says.{Faces, faces_plane}
 use Rattle.order.specs.Order.{two_placed, from, rest, leads, one_run}
-use Rattle.order.proofs.Runs.{rings}
+use Rattle.order.proofs.NewRun.{rings}
 use Rattle.order.proofs.Sound.{Passes, passes_sound}
 use Rattle.growth.specs.Co.{Face, Triangular, Outside, CoOrder}
 use Rattle.growth.specs.Co.Face.{same, turn, cross}

@@ -9,7 +9,7 @@ use Rattle.rings.specs.Rings.{ring}
 use Rattle.rings.specs.Plane.{Wire, SameTriangle}
 use Rattle.rings.proofs.Around.{After, after_follows, around_in}
 use Rattle.rings.proofs.Says.{Faces, entry_other, next_corner}
-use Rattle.order.proofs.Runs.{rings}
+use Rattle.order.proofs.NewRun.{rings}
 use Rattle.growth.specs.Co.{Face, Border, Triangular}
 use Rattle.growth.specs.Co.Face.{same, turn, cross}
 use Rattle.growth.proofs.Walks.{ring_spread}

@@ -20,7 +20,7 @@ use Rattle.rings.proofs.Says.{Faces, faces_plane, entry_below, entry_other}
 use Rattle.order.specs.Order.{two_placed, one_run}
 use Rattle.order.specs.Fitting.{FitsSoFar}
 use Rattle.order.proofs.Contour.{Contour, contour_start}
-use Rattle.order.proofs.Runs.{rings}
+use Rattle.order.proofs.NewRun.{rings}
 use Rattle.order.proofs.Growth.{Grown, grow, take_two}
 use Rattle.order.proofs.Sound.{Passes, boarded_names, passes_sound}
 

@@ -18,7 +18,7 @@ use Rattle.rings.proofs.Says.{Faces, entry_below, entry_other}
 use Rattle.order.specs.Order.{two_placed, lead, rest, one_run, one_later, run_begin, run}
 use Rattle.order.proofs.Contour.{Run, Contour, contour_start, run_stretch, contour_kept, run_all}
 use Rattle.order.proofs.Tests.{lead_rest, from_out}
-use Rattle.order.proofs.Runs.{rings, RunIs, the_run_is, whole_is_last}
+use Rattle.order.proofs.NewRun.{rings, RunIs, the_run_is, whole_is_last}
 
 -- The step to v: its run p ∷ (M ++ q ∷ []) is a stretch of the contour K, and v takes the place of M.
 pub record Grown (G : List (List ℕ)) (v1 v2 : ℕ) (placed K : List ℕ) (v : ℕ) : Type 0 where

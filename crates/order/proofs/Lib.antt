@@ -1,7 +1,7 @@
 pub mod OnBoards
 pub mod Contour
 pub mod Tests
-pub mod Runs
+pub mod NewRun
 pub mod Starts
 pub mod Opens
 pub mod Begins

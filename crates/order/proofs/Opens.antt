@@ -3,64 +3,61 @@
 use Prim.Native.Nat.{ℕ, suc, ◌+◌, ◌-◌, ◌≤◌, ◌<◌}
 use mathlib.Core.Path.{◌≡◌, refl, ap, sym, ◌∙◌, subst, subst⁻¹}
 use mathlib.Core.Logic.{◌⊎◌, inl, inr}
-use mathlib.Core.Bool.{Bool, not, cond, ◌&&◌}
+use mathlib.Core.Bool.{Bool, true, false, not, cond, ◌&&◌}
 use mathlib.Core.List.{List, [], ◌∷◌, ◌++◌}
 use native.Mathlib.Omega.{arith}
-use native.Mathlib.Decide.{dec_lt}
-use lib.ListN.{length, get_or}
-use lib.Seq.{slice, slice_empty, length-slice}
+use native.Mathlib.Numerals.{add-one}
+use lib.ListN.{length, get_or, drop}
+use lib.Seq.{drop-cons}
+use Rattle.std.proofs.lemmas.List.{drop_all}
+use Rattle.std.proofs.Common.{zero-add}
+use Rattle.std.proofs.Math.Nat.{add_assoc}
 use Rattle.words.specs.Lists.{In, mem, count, last_of, Adj}
 use Rattle.words.proofs.Lists.{in_dec, last_in, last_at, adj_more}
 use Rattle.words.proofs.Tests.{is_true, is_false, in_mem, mem_in}
 use Rattle.rings.specs.Rings.{around}
-use Rattle.rings.proofs.Turns.{part_step, part_at}
 use Rattle.order.specs.Opens.{openings_after, opening_after, openings, last_opening}
 use Rattle.order.proofs.Starts.{starts, starts_turn}
 
--- ---- a turn of the loop
-module _ (p : ℕ → Bool) where
-  openings_cons : (w : Bool) (y : ℕ) (l : List ℕ) → openings_after p w (y ∷ l) ≡ cond (not w && p y) 1 0 + openings_after p (p y) l
-  unfolding openings_after
-  openings_cons w y l = refl
+-- ---- the loop: what is found before entry i, and what the entries from there on add to it, are what the whole ring has
+pub record Passed (p : ℕ → Bool) (l : List ℕ) (i : ℕ) (w : Bool) (many runs begin : ℕ) : Type 0 where
+  pub many_most : many ≤ i
+  pub runs_most : runs ≤ i
+  pub many_is : many + count p (drop i l) ≡ count p l
+  pub runs_is : runs + openings_after p w (drop i l) ≡ openings p l
+  pub begin_is : opening_after p begin i w (drop i l) ≡ last_opening p l
 
-  opening_cons : (z i : ℕ) (w : Bool) (y : ℕ) (l : List ℕ) → opening_after p z i w (y ∷ l) ≡ opening_after p (cond (not w && p y) i z) (suc i) (p y) l
-  unfolding opening_after
-  opening_cons z i w y l = refl
+-- before the first turn: w is the test of the last entry, if there is one
+pub passed_none : (p : ℕ → Bool) (l : List ℕ) (w : Bool) → (0 < length l → w ≡ p (get_or l (length l - 1) 0)) → Passed p l 0 w 0 0 0
+unfolding openings_after opening_after
+passed_none p [] w f = record { many_most = omega arith; runs_most = omega arith; many_is = omega arith; runs_is = omega arith; begin_is = refl }
+passed_none p (y ∷ l) w f =
+    let e : w ≡ p (last_of y l) = f (omega arith) ∙ ap p (sym (last_at 0 (y ∷ l) (omega arith))) in
+    record { many_most = omega arith; runs_most = omega arith; many_is = omega arith; runs_is = rw e (zero-add _); begin_is = rw e refl }
 
-  -- here is the test of entry i, and o whether a run begins there
-  module _ (l : List ℕ) (i e : ℕ) (h : i < e) (k : e ≤ length l) (w here o : Bool) (eh : here ≡ p (get_or l i 0)) (eo : o ≡ (not w && here)) where
-    pub openings_step : openings_after p w (slice i e l) ≡ cond o 1 0 + openings_after p here (slice (i + 1) e l)
-    openings_step = ap (openings_after p w) (part_step l i e h k) ∙ openings_cons w (get_or l i 0) (slice (i + 1) e l) ∙ rw (← eh, ← eo) refl
+module _ (p : ℕ → Bool) (l : List ℕ) (i : ℕ) (w : Bool) (many runs begin : ℕ) (P : Passed p l i w many runs begin) where
+  -- a turn: the test of entry i, and whether a run begins there
+  pub passed_more : i < length l → (here : Bool) → here ≡ p (get_or l i 0) → (m r z : ℕ) → m ≡ cond here 1 0 → r ≡ cond (not w && here) 1 0
+      → z ≡ cond (not w && here) i begin → Passed p l (i + 1) here (many + m) (runs + r) z
+  unfolding count openings_after opening_after
+  passed_more h here e m r z em er ez =
+      let split = drop-cons l i 0 h in
+      let one : (b : Bool) → cond {A = ℕ} b 1 0 ≤ 1 = elim [ true ↦ omega arith | false ↦ omega arith ] in
+      record {
+        many_most = omega (arith, one here, P.many_most);
+        runs_most = omega (arith, one (not w && here), P.runs_most);
+        many_is = rw (em, e, add-one) (add_assoc many _ _ ∙ rw split at P.many_is);
+        runs_is = rw (er, e, add-one) (add_assoc runs _ _ ∙ rw split at P.runs_is);
+        begin_is = rw (ez, e, add-one) (rw split at P.begin_is);
+      }
 
-    pub opening_step : (z j : ℕ) → opening_after p z j w (slice i e l) ≡ opening_after p (cond o j z) (suc j) here (slice (i + 1) e l)
-    opening_step z j = ap (opening_after p z j w) (part_step l i e h k) ∙ opening_cons z j w (get_or l i 0) (slice (i + 1) e l) ∙ rw (← eh, ← eo) refl
-
-  pub openings_end : (l : List ℕ) (e : ℕ) (w : Bool) → openings_after p w (slice e e l) ≡ 0
-  unfolding openings_after
-  openings_end l e w = ap (openings_after p w) (slice_empty e l)
-
-  pub opening_end : (l : List ℕ) (e z j : ℕ) (w : Bool) → opening_after p z j w (slice e e l) ≡ z
-  unfolding opening_after
-  opening_end l e z j w = ap (opening_after p z j w) (slice_empty e l)
-
--- ---- before the first turn: w is the test of the last entry, if there is one
-last_part : (l : List ℕ) (b e : ℕ) → b < e → e ≤ length l → last_of 0 (slice b e l) ≡ get_or l (e - 1) 0
-last_part l b e h k =
-    let n = length-slice b e l k in
-    let q : length (slice b e l) - 1 ≡ e - 1 - b = omega arith in
-    last_at 0 (slice b e l) (omega arith) ∙ ap (λ (c : ℕ). get_or (slice b e l) c 0) q ∙ part_at l b e (e - 1) (omega arith) (omega arith) k
-
-pub pass_begins : (p : ℕ → Bool) (l : List ℕ) (b e : ℕ) → b ≤ e → e ≤ length l → (w : Bool) → (b < e → w ≡ p (get_or l (e - 1) 0))
-    → (openings_after p w (slice b e l) ≡ openings p (slice b e l)) × (opening_after p 0 0 w (slice b e l) ≡ last_opening p (slice b e l))
-pass_begins p l b e h k w f = go (dec_lt b e)
-  where
-    go : Dec (b < e) → (openings_after p w (slice b e l) ≡ openings p (slice b e l)) × (opening_after p 0 0 w (slice b e l) ≡ last_opening p (slice b e l))
-    go (yes i) =
-        let is = f i ∙ ap p (sym (last_part l b e i k)) in
-        (ap (λ (w : Bool). openings_after p w (slice b e l)) is, ap (λ (w : Bool). opening_after p 0 0 w (slice b e l)) is)
-    go (no i) =
-        let q : b ≡ e = omega arith in
-        rw q (openings_end p l e w ∙ sym (openings_end p l e _), opening_end p l e 0 0 w ∙ sym (opening_end p l e 0 0 _))
+  pub passed_all : length l ≤ i → (many ≡ count p l) × (runs ≡ openings p l) × (begin ≡ last_opening p l)
+  unfolding count openings_after opening_after
+  passed_all h =
+      let none : drop i l ≡ [] = drop_all i l h in
+      let many_is : many + 0 ≡ count p l = rw none at P.many_is in
+      let runs_is : runs + 0 ≡ openings p l = rw none at P.runs_is in
+      (omega arith, omega arith, rw none at P.begin_is)
 
 -- ---- tests that agree on the entries find the same
 module _ (p q : ℕ → Bool) where

@@ -1,6 +1,6 @@
 -- Positions by name: earlier and later as comparisons of positions.
 use Prim.Native.Nat.{ℕ, suc, ◌+◌, ◌-◌, ◌≤◌, ◌<◌}
-use mathlib.Core.Path.{◌≡◌, sym, ap, ◌∙◌}
+use mathlib.Core.Path.{◌≡◌, sym, ap, ◌∙◌, subst}
 use mathlib.Core.Bool.{true, false}
 use mathlib.Core.List.{List}
 use native.Mathlib.Omega.{arith}
@@ -61,17 +61,27 @@ abbrev pub RankedTo : List ℕ → List ℕ → ℕ → Type 0
 RankedTo vs rank k = (j : ℕ) → 1 ≤ j → j < k → get_or rank (post vs j) 0 ≡ j
 
 module _ (vs rank : List ℕ) (room : length vs ≤ length rank) (good : (k : ℕ) → 1 ≤ k → k ≤ length vs → bad_entry (length vs) vs k ≡ false) where
-  -- one position more, of the name a
-  pub rank_more : (k a : ℕ) → 1 ≤ k → k ≤ length vs → a ≡ post vs k → RankedTo vs rank k → RankedTo vs (set rank a k) (k + 1)
-  rank_more k a from to is r j h l = go (ℕ_discrete j k)
-    where
-      says : (post vs k < length vs) × ¬ (In (post vs k) (earlier vs k))
-      says = position_says (length vs) vs k (good k from to)
+  named : (i : ℕ) → i < length vs → (get_or vs i 0 < length vs) × ¬ (In (get_or vs i 0) (earlier vs (i + 1)))
+  named i h =
+      let e : i + 1 - 1 ≡ i = omega arith in
+      subst (λ (j : ℕ). (get_or vs j 0 < length vs) × ¬ (In (get_or vs j 0) (earlier vs (i + 1)))) e
+      (position_says (length vs) vs (i + 1) (good (i + 1) (omega arith) (omega arith)))
 
-      go : Dec (j ≡ k) → get_or (set rank a k) (post vs j) 0 ≡ j
-      go (yes e) = rw (is, e) (get_or-set_same rank (post vs k) k 0 (omega (arith, says.0)))
+  -- a name stands in the array
+  pub name_within : (i a : ℕ) → i < length vs → a ≡ get_or vs i 0 → a < length rank
+  name_within i a h is = omega (arith, named i h)
+
+  -- one position more, of the name a
+  pub rank_more : (i a : ℕ) → i < length vs → a ≡ get_or vs i 0 → RankedTo vs rank (i + 1) → RankedTo vs (set rank a (i + 1)) (i + 1 + 1)
+  rank_more i a to is r j h l = go (ℕ_discrete j (i + 1))
+    where
+      go : Dec (j ≡ i + 1) → get_or (set rank a (i + 1)) (post vs j) 0 ≡ j
+      go (yes e) =
+          let q : i + 1 - 1 ≡ i = omega arith in
+          rw (e, q, is) (get_or-set_same rank (get_or vs i 0) (i + 1) 0 (omega (arith, named i to)))
       go (no n) =
-          rw is (get_or-set_other rank (post vs k) (post vs j) k 0 (λ e. says.1 (earlier_in vs k (post vs k) (omega arith) (j, h, omega arith, e))))
+          rw is (get_or-set_other rank (get_or vs i 0) (post vs j) (i + 1) 0
+          (λ e. (named i to).1 (earlier_in vs (i + 1) (get_or vs i 0) (omega arith) (j, h, omega arith, e))))
           ∙ r j h (omega arith)
 
   -- the list names each post, so none is beyond it

@@ -1,12 +1,12 @@
 -- How running code holds an order, and what it finds in a ring.
-use Rattle.std.specs.Prelude.{ℕ, ◌-◌, ◌≤◌, ◌<◌, ◌≡◌, true, cond, List, length, get_or}
+use Rattle.std.specs.Prelude.{ℕ, ◌-◌, ◌≤◌, ◌<◌, ◌≡◌, true, cond, List, length, get_or, Some, Result, Ok, Err, slice_get}
 use Rattle.words.specs.Lists.{In}
 use Rattle.words.specs.Positions.{post, earlier}
 use Rattle.rings.specs.Rings.{ring_rule}
-use Rattle.rings.specs.Held.{held, Cuts}
 use Rattle.order.specs.Order.{two_placed, one_run, run_begin, run}
-use Rattle.order.specs.declared.Fit.{Fit}
-use Rattle.order.specs.declared.Fit.TheVariants.{Good, Few, Broken}
+use Rattle.order.specs.declared.Run.{Run}
+use Rattle.order.specs.declared.Misfit.{Misfit}
+use Rattle.order.specs.declared.Misfit.TheVariants.{Few, Broken}
 
 -- the position of each name below n: a post of the list has its own there, any other name has one beyond the list
 pub record RankedBelow (n : ℕ) (vs rank : List ℕ) : Type 0 where
@@ -18,23 +18,24 @@ pub record RankedBelow (n : ℕ) (vs rank : List ℕ) : Type 0 where
 abbrev pub Ranked : List ℕ → List ℕ → Type 0
 Ranked vs rank = RankedBelow (length vs) vs rank
 
--- the entries from b to e are names below n
-abbrev pub NamesBelow : List ℕ → ℕ → ℕ → ℕ → Type 0
-NamesBelow ents b e n = (i : ℕ) → b ≤ i → i < e → get_or ents i 0 < n
+-- the entries are names below n
+abbrev pub NamesBelow : List ℕ → ℕ → Type 0
+NamesBelow ring n = (i : ℕ) → i < length ring → get_or ring i 0 < n
 
 -- rings that keep the ring rule, and a list of posts with the positions by name
-pub record Listed (at ents vs rank : List ℕ) : Type 0 where
-  pub cuts : Cuts at ents
-  pub rings : (u : ℕ) → u < length (held at ents) → ring_rule (held at ents) u ≡ true
-  pub ranked : RankedBelow (length (held at ents)) vs rank
+pub record Listed (G : List (List ℕ)) (vs rank : List ℕ) : Type 0 where
+  pub rings : (u : ℕ) → u < length G → ring_rule G u ≡ true
+  pub ranked : RankedBelow (length G) vs rank
 
--- where the run of the post in position k begins (a place counted from 0), and how long it is, are the k-th entries of two lists, for positions
--- from 3 on and before m
-pub record RunsBefore (G : List (List ℕ)) (vs begin long : List ℕ) (m : ℕ) : Type 0 where
-  pub begin_is : (k : ℕ) → 3 ≤ k → k < m → get_or begin (k - 1) 0 ≡ run_begin G (earlier vs k) (post vs k)
-  pub long_is : (k : ℕ) → 3 ≤ k → k < m → get_or long (k - 1) 0 ≡ length (run G (earlier vs k) (post vs k))
+-- the run of v, the next post: where it begins in v's list, and how long it is. Where the whole ring is placed and the first post is not in it, the
+-- begin is beyond the list
+abbrev pub run_found : List (List ℕ) → List ℕ → ℕ → Run
+run_found G placed v = record { begin = run_begin G placed v; many = length (run G placed v) }
 
--- what 12 and 13 find in v, the next post: where its run begins in its list, and how long it is; or fewer than two placed neighbours; or not one
--- run. Where the whole ring is placed and the first post is not in it, the begin is beyond the list
-abbrev pub fit_of : List (List ℕ) → List ℕ → ℕ → Fit
-fit_of G placed v = cond (two_placed G placed v) (cond (one_run G placed v) (Good (run_begin G placed v) (length (run G placed v))) Broken) Few
+-- for positions from 3 on and before m: the run of the post in position k is the k-th of a list
+pub record RunsBefore (G : List (List ℕ)) (vs : List ℕ) (runs : List Run) (m : ℕ) : Type 0 where
+  pub kept : (k : ℕ) → 3 ≤ k → k < m → slice_get runs (k - 1) ≡ Some (run_found G (earlier vs k) (post vs k))
+
+-- what 12 and 13 find in v: its run; or fewer than two placed neighbours; or not one run
+abbrev pub fit_of : List (List ℕ) → List ℕ → ℕ → Result Run Misfit
+fit_of G placed v = cond (two_placed G placed v) (cond (one_run G placed v) (Ok (run_found G placed v)) (Err Broken)) (Err Few)

@@ -1,26 +1,47 @@
 // The order of fitting: the position of each name, the rule at each position (steps 12 and 13), and the run that it finds there.
 #![tactic(auto)]
 
-ghost use Rattle.std.specs.Prelude.{◌≡◌, false, not, cond, ◌&&◌, ℕ, ◌+◌, ◌-◌, ◌≤◌, ◌<◌, ltb, eqb, length, get_or};
-ghost use Rattle.std.proofs.Math.Seq.{slice};
-ghost use Rattle.words.specs.First.{first};
+ghost use Rattle.std.specs.Prelude.{◌≡◌, false, ℕ, ◌≤◌, ◌<◌, ◌==◌, ltb, length, get_or, position};
 ghost use Rattle.words.specs.Lists.{count};
 ghost use Rattle.words.specs.Positions.{post, earlier};
 ghost use Rattle.block.specs.Layout.{limit};
 ghost use Rattle.block.specs.Block.{bad_entry};
-ghost use Rattle.rings.specs.Held.{held};
+ghost use Rattle.rings.specs.Given.{rings_of};
 ghost use Rattle.order.specs.Order.{run};
 ghost use Rattle.order.specs.Opens.{before, openings, last_opening};
-ghost use Rattle.order.specs.Fitted.{RunKept};
+ghost use Rattle.order.specs.Fitted.{Fitted, RunsHeld, RunKept};
 ghost use Rattle.order.specs.Ranked.{NamesBelow, Ranked, Listed, fit_of};
 
-// What the order's rule finds in a position: one run of earlier neighbours, with the place in the ring where it begins and its length; fewer than
-// two earlier neighbours; or they aren't one run.
+use rings::Lists;
+
+// One run of earlier neighbours: the place in the post's ring where it begins, counted from 0, and how many they are.
 #[derive(Clone, Copy)]
-pub enum Fit {
-    Good(u16, u16),
+pub struct Run {
+    pub begin: u16,
+    pub many: u16,
+}
+
+// Why a post does not fit: it has fewer than two earlier neighbours; or they aren't one run.
+#[derive(Clone, Copy)]
+pub enum Misfit {
     Few,
     Broken,
+}
+
+// Rings, and a list of posts.
+#[derive(Clone, Copy)]
+pub struct Plan<'a> {
+    pub lists: Lists<'a>,
+    pub vs: &'a [u16],
+}
+
+// A list of posts that fits so far, and the run of each from the third on, by position.
+#[derive(Clone, Copy)]
+pub struct Runs<'a> {
+    pub plan: Plan<'a>,
+    pub runs: &'a [Run],
+    pub ghost fitted: { ∥ Fitted plan.lists.at.now plan.lists.ents.now plan.vs.now ∥₁ },
+    pub ghost kept: { ∥ RunsHeld plan.lists.at.now plan.lists.ents.now plan.vs.now runs.now ∥₁ },
 }
 
 // rank[a] becomes the position of the name a.
@@ -29,18 +50,9 @@ pub fn ranks(vs: &[u16], rank: &mut [u16])
         × ((k : ℕ) → 1 ≤ k → k ≤ length vs.now → bad_entry (length vs.now) vs.now k ≡ false) }
     ensures { Ranked vs.now rank.new }
 {
-    let mut k = 1;
-    while k <= vs.len() {
-        let a = words::number(vs[k - 1]);
-        rank[a] = k as u16;
-        k += 1;
+    for (i, v) in vs.iter().enumerate() {
+        rank[usize::from(*v)] = (i + 1) as u16;
     }
-}
-
-fn one_if(b: bool) -> usize
-    ensures { (result ≡ cond b 1 0) × (result ≤ 1) }
-{
-    if b { 1 } else { 0 }
 }
 
 // a stands in a position before k.
@@ -48,37 +60,11 @@ pub fn is_before(rank: &[u16], a: u16, k: usize) -> bool
     requires { a < length rank.now }
     ensures { result ≡ ltb (get_or rank.now a 0) k }
 {
-    let i = words::number(a);
-    words::number(rank[i]) < k
-}
-
-fn pick(b: bool, x: usize, y: usize) -> usize
-    ensures { result ≡ cond b x y }
-{
-    if b { x } else { y }
-}
-
-fn is_opening(last: bool, here: bool) -> bool
-    ensures { result ≡ (not last && here) }
-{
-    if last {
-        return false;
-    }
-    here
-}
-
-// The last of the entries from b to e stands in a position before k; none does, if there is no entry.
-fn ends_before(ents: &[u16], b: usize, e: usize, rank: &[u16], k: usize) -> bool
-    requires { (e ≤ length ents.now) × NamesBelow ents.now b e (length rank.now) }
-    ensures { b < e → result ≡ before rank.now k (get_or ents.now (e - 1) 0) }
-{
-    if e <= b {
-        return false;
-    }
-    is_before(rank, ents[e - 1], k)
+    usize::from(rank[usize::from(a)]) < k
 }
 
 // What a pass over a ring finds: how many entries stand in positions before k, how many runs of them begin, and where the last of these begins.
+// `begin` is 0 if no run begins. An Option would be no plainer: `runs` has to be counted, and says whether there is one.
 #[derive(Clone, Copy)]
 struct Seen {
     many: usize,
@@ -86,78 +72,76 @@ struct Seen {
     begin: usize,
 }
 
-// The pass over the entries from b to e, read around. Places are counted from b.
-fn pass_over(ents: &[u16], b: usize, e: usize, rank: &[u16], k: usize) -> Seen
-    requires { (b ≤ e) × (e ≤ length ents.now) × NamesBelow ents.now b e (length rank.now) }
-    ensures { (result.many ≡ count (before rank.now k) (slice b e ents.now))
-        × (result.runs ≡ openings (before rank.now k) (slice b e ents.now))
-        × (result.begin ≡ last_opening (before rank.now k) (slice b e ents.now)) }
+// The pass over a ring.
+fn pass_over(ring: &[u16], rank: &[u16], k: usize) -> Seen
+    requires { NamesBelow ring.now (length rank.now) }
+    ensures { (result.many ≡ count (before rank.now k) ring.now)
+        × (result.runs ≡ openings (before rank.now k) ring.now)
+        × (result.begin ≡ last_opening (before rank.now k) ring.now) }
 {
     let mut many = 0;
     let mut runs = 0;
     let mut begin = 0;
-    let mut last = ends_before(ents, b, e, rank, k);
-    let mut i = b;
-    while i < e {
-        let here = is_before(rank, ents[i], k);
-        let opening = is_opening(last, here);
-        many += one_if(here);
-        runs += one_if(opening);
-        begin = pick(opening, i - b, begin);
+    let mut last = match ring.last() {
+        Some(v) => is_before(rank, *v, k),
+        None => false,
+    };
+    for (i, v) in ring.iter().enumerate() {
+        let here = is_before(rank, *v, k);
+        let opening = !last & here;
         last = here;
-        i += 1;
+        many += usize::from(here);
+        runs += usize::from(opening);
+        if opening {
+            begin = i;
+        }
     }
     Seen { many, runs, begin }
 }
 
-// The place of a name among the entries from b to e, counted from b; beyond them if it isn't there.
-fn place_of(ents: &[u16], b: usize, e: usize, a: u16) -> usize
-    requires { (b ≤ e) × (e ≤ length ents.now) }
-    ensures { (result ≡ first 0 (e - b) (λ s. eqb (get_or ents.now (b + s) 0) a)) × (result ≤ e - b) }
+// The place of a in a list.
+fn place_of(list: &[u16], a: u16) -> Option<usize>
+    ensures { result ≡ position (λ x. x == a) list.now }
 {
-    let d = e - b;
-    let mut i = 0;
-    while i < d {
-        if ents[b + i] == a {
-            return i;
+    list.iter().position(|x| *x == a)
+}
+
+impl<'a> Plan<'a> {
+    // What the order's rule finds in position k: the only place where a run is looked for.
+    pub fn rule_at(self, rank: &[u16], k: usize) -> Result<Run, Misfit>
+        requires { Listed (rings_of self.lists) self.vs.now rank.now × (1 ≤ k) × (k ≤ length self.vs.now)
+            × (post self.vs.now k < length (rings_of self.lists)) }
+        ensures { result ≡ fit_of (rings_of self.entry.lists) (earlier self.entry.vs.now k) (post self.entry.vs.now k) }
+    {
+        let ring = self.lists.ring(self.vs[k - 1]);
+        let found = pass_over(ring, rank, k);
+        if found.many < 2 {
+            return Err(Misfit::Few);
         }
-        i += 1;
+        if 1 < found.runs {
+            return Err(Misfit::Broken);
+        }
+        let begin = if found.runs == 1 {
+            found.begin
+        } else {
+            place_of(ring, self.vs[0]).unwrap_or(ring.len())
+        };
+        Ok(Run {
+            begin: begin as u16,
+            many: found.many as u16,
+        })
     }
-    d
-}
 
-// What the order's rule finds in position k: the only place where a run is looked for.
-pub fn rule_at(ents: &[u16], at: &[u16], vs: &[u16], rank: &[u16], k: usize) -> Fit
-    requires { Listed at.now ents.now vs.now rank.now × (1 ≤ k) × (k ≤ length vs.now) × (post vs.now k < length (held at.now ents.now)) }
-    ensures { result ≡ fit_of (held at.now ents.now) (earlier vs.now k) (post vs.now k) }
-{
-    let v = words::number(vs[k - 1]);
-    let b = words::number(at[v]);
-    let e = words::number(at[v + 1]);
-    let found = pass_over(ents, b, e, rank, k);
-    if found.many < 2 {
-        return Fit::Few;
+    // Post i, counted from 0, of this run of the post in position k: its ring is read around from where the run begins.
+    pub fn of_run(self, found: Run, k: usize, i: usize) -> u16
+        requires { RunKept (rings_of self.lists) self.vs.now found.begin k i }
+        ensures { result ≡ get_or (run (rings_of self.entry.lists) (earlier self.entry.vs.now k) (post self.entry.vs.now k)) i 0 }
+    {
+        let ring = self.lists.ring(self.vs[k - 1]);
+        let p = usize::from(found.begin) + i;
+        if p < ring.len() {
+            return ring[p];
+        }
+        ring[p - ring.len()]
     }
-    if 1 < found.runs {
-        return Fit::Broken;
-    }
-    if found.runs == 1 {
-        return Fit::Good(found.begin as u16, found.many as u16);
-    }
-    Fit::Good(place_of(ents, b, e, vs[0]) as u16, found.many as u16)
-}
-
-// Post i, counted from 0, of the run of the post in position k: its ring is read around from where the run begins.
-pub fn of_run(at: &[u16], ents: &[u16], vs: &[u16], begin: &[u16], k: usize, i: usize) -> u16
-    requires { RunKept at.now ents.now vs.now begin.now k i }
-    ensures { result ≡ get_or (run (held at.now ents.now) (earlier vs.now k) (post vs.now k)) i 0 }
-{
-    let v = words::number(vs[k - 1]);
-    let b = words::number(at[v]);
-    let e = words::number(at[v + 1]);
-    let p = b + words::number(begin[k - 1]) + i;
-    if p < e {
-        return ents[p];
-    }
-    ents[p - (e - b)]
 }
