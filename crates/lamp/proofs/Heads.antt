@@ -12,9 +12,9 @@ use Rattle.words.proofs.Tests.{neither}
 use Rattle.block.specs.Layout.{limit, size}
 use Rattle.block.specs.Block.{mark, version, posts, stated_sum, earlier_sum, marked, Framed, Headed}
 use Rattle.lamp.specs.Lamp.{short_row, mark_row, version_row, posts_row, length_row, sum_row, opening_rows, size_rows, header_rows, sum_rows}
-use Rattle.lamp.specs.Given.{reply_of, given, NoneApplies}
+use Rattle.lamp.specs.Given.{reply_of, given, nothing, tried, NoneApplies}
 use Rattle.lamp.specs.declared.Refusal.TheVariants.{Short, Mark, Version, Posts, Length, Sum}
-use Rattle.lamp.specs.declared.Answer.TheVariants.{Refused}
+use Rattle.std.proofs.Common.{Err}
 use Rattle.lamp.proofs.Given.{given_first, none_left, none_right}
 
 both_true : (x y : Bool) → x && y ≡ true → (x ≡ true) × (y ≡ true)
@@ -46,18 +46,18 @@ is_marked s e =
 module _ (s : List ℕ) where
   -- ---- the opening
 
-  pub short : length s < 7 → reply_of (Refused Short) ≡ given opening_rows s posts
+  pub short : length s < 7 → reply_of (Err Short) ≡ given opening_rows s posts
   short h = sym (given_first s posts [] short_row (mark_row ∷ version_row ∷ []) tt (lt-ltb (length s) 7 h))
 
   module _ (long : 7 ≤ length s) where
     not_short : short_row.when s ≡ false
     not_short = le-ltb (length s) 7 long
 
-    pub no_mark : marked s ≡ false → reply_of (Refused Mark) ≡ given opening_rows s posts
+    pub no_mark : marked s ≡ false → reply_of (Err Mark) ≡ given opening_rows s posts
     no_mark m = sym (given_first s posts (short_row ∷ []) mark_row (version_row ∷ []) (not_short, tt) (ap not m))
 
     module _ (mark : marked s ≡ true) where
-      pub other_version : (version s ≡ 1 → ⊥) → reply_of (Refused Version) ≡ given opening_rows s posts
+      pub other_version : (version s ≡ 1 → ⊥) → reply_of (Err Version) ≡ given opening_rows s posts
       other_version v =
           sym (given_first s posts (short_row ∷ mark_row ∷ []) version_row [] (not_short, (ap not mark, tt)) (ap not (ne_eqb (version s) 1 v)))
 
@@ -66,19 +66,19 @@ module _ (s : List ℕ) where
 
   -- ---- the size
 
-  pub few_posts : posts s < 3 → reply_of (Refused Posts) ≡ given size_rows s posts
-  few_posts h = sym (given_first s posts [] posts_row (length_row ∷ []) tt (rw (lt-ltb (posts s) 3 h) refl))
+  pub few_posts : posts s < 3 → reply_of (Err Posts) ≡ tried size_rows s
+  few_posts h = sym (given_first s nothing [] posts_row (length_row ∷ []) tt (rw (lt-ltb (posts s) 3 h) refl))
 
   module _ (least : 3 ≤ posts s) where
-    pub many_posts : limit < posts s → reply_of (Refused Posts) ≡ given size_rows s posts
-    many_posts h = sym (given_first s posts [] posts_row (length_row ∷ []) tt (rw (le-ltb (posts s) 3 least, lt-ltb limit (posts s) h) refl))
+    pub many_posts : limit < posts s → reply_of (Err Posts) ≡ tried size_rows s
+    many_posts h = sym (given_first s nothing [] posts_row (length_row ∷ []) tt (rw (le-ltb (posts s) 3 least, lt-ltb limit (posts s) h) refl))
 
     module _ (most : posts s ≤ limit) where
       in_range : posts_row.when s ≡ false
       in_range = rw (le-ltb (posts s) 3 least, le-ltb limit (posts s) most) refl
 
-      pub other_length : (length s ≡ size (posts s) → ⊥) → reply_of (Refused Length) ≡ given size_rows s posts
-      other_length h = sym (given_first s posts (posts_row ∷ []) length_row [] (in_range, tt) (ap not (ne_eqb (length s) (size (posts s)) h)))
+      pub other_length : (length s ≡ size (posts s) → ⊥) → reply_of (Err Length) ≡ tried size_rows s
+      other_length h = sym (given_first s nothing (posts_row ∷ []) length_row [] (in_range, tt) (ap not (ne_eqb (length s) (size (posts s)) h)))
 
       pub size_passes : length s ≡ size (posts s) → NoneApplies size_rows s
       size_passes sized = (in_range, (ap not (eq-eqb (length s) (size (posts s)) sized), tt))
@@ -97,8 +97,8 @@ module _ (s : List ℕ) where
 
   -- ---- the sum
 
-  pub other_sum : (stated_sum s ≡ earlier_sum s → ⊥) → reply_of (Refused Sum) ≡ given sum_rows s posts
-  other_sum h = sym (given_first s posts [] sum_row [] tt (ap not (ne_eqb (stated_sum s) (earlier_sum s) h)))
+  pub other_sum : (stated_sum s ≡ earlier_sum s → ⊥) → reply_of (Err Sum) ≡ tried sum_rows s
+  other_sum h = sym (given_first s nothing [] sum_row [] tt (ap not (ne_eqb (stated_sum s) (earlier_sum s) h)))
 
   pub sum_passes : stated_sum s ≡ earlier_sum s → NoneApplies sum_rows s
   sum_passes h = (ap not (eq-eqb (stated_sum s) (earlier_sum s) h), tt)

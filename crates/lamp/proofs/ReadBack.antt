@@ -5,8 +5,7 @@ use mathlib.Core.Option.{some}
 use Rattle.lamp.specs.Refusals.{number_of, place_of}
 use Rattle.lamp.specs.Given.{Reply, refused, reply_of}
 use Rattle.lamp.specs.ReadBack.{refusals_at, with_number, refusal_of, ToldApart}
-use Rattle.lamp.specs.declared.Answer.{Answer}
-use Rattle.lamp.specs.declared.Answer.TheVariants.{Accepted, Refused}
+use Rattle.std.proofs.Common.{Result, Ok, Err}
 use Rattle.lamp.specs.declared.Refusal.{Refusal}
 use Rattle.lamp.specs.declared.Refusal.TheVariants.{Short, Mark, Version, Posts, Length, Sum, Order, Degrees, High, Itself}
 use Rattle.lamp.specs.declared.Refusal.TheVariants.{Repeated, Unreturned, Triangle, Outer, Few, Broken, Stage, Room, Name}
@@ -47,11 +46,11 @@ one_refused a b e =
     let p : place_of a ≡ place_of b = cc in
     one_refusal a b n p
 
-pub one_told : (a b : Answer) → reply_of a ≡ reply_of b → a ≡ b
-one_told (Accepted m) (Accepted n) e = cc
-one_told (Accepted m) (Refused f) e = not_both (sym e)
-one_told (Refused f) (Accepted n) e = not_both e
-one_told (Refused f) (Refused g) e = ap Refused (one_refused f g e)
+pub one_told : {A : Type 0} (a b : Result A Refusal) → reply_of a ≡ reply_of b → a ≡ b
+one_told (Ok m) (Ok n) e = cc
+one_told (Ok m) (Err f) e = not_both (sym e)
+one_told (Err f) (Ok n) e = not_both e
+one_told (Err f) (Err g) e = ap Err (one_refused f g e)
 
 pub told_apart : ToldApart
 told_apart =

@@ -1,6 +1,6 @@
 -- The four rows of step 9: one of them applies exactly if some list breaks the ring rule; and which it is, by what the code found.
 use Prim.Native.Nat.{ℕ, ◌+◌, ◌≤◌, ◌<◌}
-use mathlib.Core.Path.{◌≡◌, refl, sym, ap, ◌∙◌}
+use mathlib.Core.Path.{◌≡◌, refl, sym, ◌∙◌}
 use mathlib.Core.Bool.{Bool, true, false, cond, ◌&&◌, ◌||◌, true≢false}
 use mathlib.Core.List.{List, [], ◌∷◌, ◌++◌}
 use native.Mathlib.Omega.{arith}
@@ -18,9 +18,11 @@ use Rattle.rings.specs.declared.ListFault.{ListFault}
 use Rattle.rings.proofs.Faults.{broken_bad}
 use Rattle.lamp.specs.Lamp.{Row, name, some_name, ring_fault, high_row, itself_row, repeated_row, unreturned_row, header_rows, sum_rows}
 use Rattle.lamp.specs.Lamp.{order_rows, degree_rows, ring_rows, triangle_rows, outer_rows, fitting_rows}
-use Rattle.lamp.specs.Given.{accepted, refused, reply_of, given, NoneApplies}
+use Rattle.std.proofs.Common.{Result, Ok, Err}
+use Rattle.lamp.specs.Given.{refused, reply_of, given, nothing, tried, NoneApplies}
 use Rattle.lamp.specs.Finer.{applies}
-use Rattle.lamp.specs.Loaded.{lists_answer}
+use Rattle.lamp.specs.Loaded.{refusal_for}
+use Rattle.lamp.specs.declared.Refusal.{Refusal}
 use Rattle.lamp.proofs.Given.{given_first, given_none}
 
 -- check's rows before the four, and after them
@@ -33,6 +35,11 @@ after_rings s = (triangle_rows ++ outer_rows) ++ fitting_rows s
 -- the number by which of the faults an entry has, if it has one
 abbrev pub number_by : Bool → Bool → Bool → ℕ
 number_by a b c = cond a 9 (cond b 18 (cond c 19 20))
+
+-- what the code answers for what it found in the lists
+abbrev pub ring_answer : Result (Unit {0}) ListFault → Result (Unit {0}) Refusal
+ring_answer (Ok t) = Ok t
+ring_answer (Err f) = Err (refusal_for f)
 
 -- one of some rows applies, or none
 pub none_applies : (rows : List Row) (s : List ℕ) → NoneApplies rows s → applies rows s ≡ false
@@ -108,22 +115,22 @@ module _ (s : List ℕ) where
   none_rings h = sym exactly ∙ none_applies ring_rows s h
 
   -- what the code answers for the fault that it found
-  answered : (n : ℕ) (a b c d : Bool) → a || (b || (c || d)) ≡ true
-      → reply_of (lists_answer n (cond a (ListFault.High u) (cond b (ListFault.Itself u) (cond c (ListFault.Repeated u)
-      (cond d (ListFault.Unreturned u) ListFault.Sound))))) ≡ refused (number_by a b c) u
-  answered n true b c d o = refl
-  answered n false true c d o = refl
-  answered n false false true d o = refl
-  answered n false false false true o = refl
-  answered n false false false false o = absurd (true≢false (sym o))
+  answered : (a b c d : Bool) → a || (b || (c || d)) ≡ true
+      → reply_of (ring_answer (cond a (Err (ListFault.High u)) (cond b (Err (ListFault.Itself u)) (cond c (Err (ListFault.Repeated u))
+      (cond d (Err (ListFault.Unreturned u)) (Ok tt)))))) ≡ refused (number_by a b c) u
+  answered true b c d o = refl
+  answered false true c d o = refl
+  answered false false true d o = refl
+  answered false false false true o = refl
+  answered false false false false o = absurd (true≢false (sym o))
 
-  pub fault_reply : (n : ℕ) → n ≡ posts s → length (lists s) ≡ posts s → reply_of (lists_answer n (fault_of (lists s))) ≡ given ring_rows s posts
+  pub fault_reply : length (lists s) ≡ posts s → reply_of (ring_answer (fault_of (lists s))) ≡ tried ring_rows s
   unfolding fault_of fault_at is_bad
-  fault_reply n is many = rw many (go (some_name ring_fault s) refl)
+  fault_reply many = rw many (go (some_name ring_fault s) refl)
     where
       go : (x : Bool) → some_name ring_fault s ≡ x
-          → reply_of (lists_answer n (cond (ltb u (posts s)) (fault_at G u i) ListFault.Sound)) ≡ given ring_rows s posts
+          → reply_of (ring_answer (cond (ltb u (posts s)) (fault_at G u i) (Ok tt))) ≡ tried ring_rows s
       go true t =
           rw (lt-ltb u (posts s) (omega (arith, lowest_name t)))
-          (answered n (is_high G u i) (is_itself G u i) (is_repeated G u i) (is_unreturned G u i) (lowest_bad t) ∙ sym (ring_given posts [] t))
-      go false t = rw (le-ltb u (posts s) (omega (arith, no_name t))) (ap accepted is ∙ sym (given_none s posts ring_rows (rings_none t)))
+          (answered (is_high G u i) (is_itself G u i) (is_repeated G u i) (is_unreturned G u i) (lowest_bad t) ∙ sym (ring_given nothing [] t))
+      go false t = rw (le-ltb u (posts s) (omega (arith, no_name t))) (sym (given_none s nothing ring_rows (rings_none t)))

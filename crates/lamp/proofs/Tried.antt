@@ -5,36 +5,41 @@ use mathlib.Core.Bool.{Bool, true, false}
 use mathlib.Core.List.{List, ◌++◌}
 use borrow.Author.Tests.{lt-ltb, le-ltb}
 use Rattle.words.specs.First.{first, some}
-use Rattle.block.specs.Block.{posts}
 use Rattle.lamp.specs.Refusals.{number_of, place_of}
 use Rattle.lamp.specs.Lamp.{Row}
-use Rattle.lamp.specs.Given.{accepted, reply_of, given, NoneApplies}
+use Rattle.lamp.specs.Given.{accepted, refused, reply_of, given, NoneApplies}
 use Rattle.lamp.specs.declared.Refusal.{Refusal}
-use Rattle.lamp.specs.declared.Answer.{Answer}
-use Rattle.lamp.specs.declared.Answer.TheVariants.{Accepted, Refused}
-use Rattle.lamp.proofs.Given.{given_past, given_none, given_says, accepted_is, given_refused, not_both}
+use Rattle.std.proofs.Common.{Result, Ok, Err}
+use Rattle.lamp.proofs.Given.{given_past, given_none, given_says, accepted_is, given_refused, refused_any}
 
-module _ (s : List ℕ) (rows : List Row) where
-  pub none_stops : (n : ℕ) → n ≡ posts s → NoneApplies rows s → accepted n ≡ given rows s posts
-  none_stops n is none = ap accepted is ∙ sym (given_none s posts rows none)
+module _ {A : Type 0} (s : List ℕ) (answer : List ℕ → A) (rows : List Row) where
+  pub none_stops : NoneApplies rows s → accepted (answer s) ≡ given rows s answer
+  none_stops none = sym (given_none s answer rows none)
 
-  module _ (r : Answer) (er : reply_of r ≡ given rows s posts) where
-    pub none_applied : (n : ℕ) → r ≡ Accepted n → NoneApplies rows s
-    none_applied n e = given_says s posts rows n (sym er ∙ ap reply_of e)
+  module _ (r : Result A Refusal) (er : reply_of r ≡ given rows s answer) where
+    pub none_applied : (v : A) → r ≡ Ok v → NoneApplies rows s
+    none_applied v e = given_says s answer rows v (sym er ∙ ap reply_of e)
 
-    pub counts : (n : ℕ) → r ≡ Accepted n → n ≡ posts s
-    counts n e = accepted_is s posts rows n (sym er ∙ ap reply_of e)
+    pub counts : (v : A) → r ≡ Ok v → v ≡ answer s
+    counts v e = accepted_is s answer rows v (sym er ∙ ap reply_of e)
 
-    module _ (rest : List Row) where
-      pub stops : (f : Refusal) → r ≡ Refused f → reply_of r ≡ given (rows ++ rest) s posts
-      stops f e = ap reply_of e ∙ sym (given_refused s posts rows rest (number_of f) (place_of f) (sym er ∙ ap reply_of e))
+    -- whatever the rest would have answered
+    module _ {B : Type 0} (own : List ℕ → B) (rest : List Row) where
+      pub stops : (f : Refusal) → r ≡ Err f → refused (number_of f) (place_of f) ≡ given (rows ++ rest) s own
+      stops f e =
+          let mine = refused_any s answer own rows (number_of f) (place_of f) (sym er ∙ ap reply_of e) in
+          sym (given_refused s own rows rest (number_of f) (place_of f) mine)
 
-      pub goes_on : (n : ℕ) → r ≡ Accepted n → given rest s posts ≡ given (rows ++ rest) s posts
-      goes_on n e = sym (given_past s posts rows rest (none_applied n e))
+      pub goes_on : (v : A) → r ≡ Ok v → given rest s own ≡ given (rows ++ rest) s own
+      goes_on v e = sym (given_past s own rows rest (none_applied v e))
 
--- a refusal is no acceptance
-pub never : {P : Type 0} (r : Answer) (f : Refusal) (n : ℕ) → r ≡ Refused f → reply_of r ≡ accepted n → P
-never r f n e a = not_both (sym (ap reply_of e) ∙ a)
+    -- and where nothing is left to try
+    module _ {B : Type 0} (own : List ℕ → B) where
+      pub stops_last : (f : Refusal) → r ≡ Err f → refused (number_of f) (place_of f) ≡ given rows s own
+      stops_last f e = sym (refused_any s answer own rows (number_of f) (place_of f) (sym er ∙ ap reply_of e))
+
+      pub passes_last : (v : A) → r ≡ Ok v → accepted (own s) ≡ given rows s own
+      passes_last v e = sym (given_none s own rows (none_applied v e))
 
 -- the first of n from i on that p holds of: whether there is one
 module _ (p : ℕ → Bool) (i n u : ℕ) (e : u ≡ first i n p) where

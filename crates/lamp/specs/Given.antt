@@ -1,25 +1,31 @@
 -- What the table gives: the first row that applies, or acceptance.
-use Rattle.std.specs.Prelude.{ℕ, ◌≡◌, true, false, List, [], ◌∷◌, ◌++◌}
+use Rattle.std.specs.Prelude.{ℕ, ◌≡◌, true, false, List, [], ◌∷◌, ◌++◌, Result, Ok, Err}
 use Rattle.block.specs.Block.{posts}
 use Rattle.lamp.specs.Refusals.{number_of, place_of}
 use Rattle.lamp.specs.Lamp.{Row, check_rows}
-use Rattle.lamp.specs.declared.Answer.{Answer}
-use Rattle.lamp.specs.declared.Answer.TheVariants.{Accepted, Refused}
+use Rattle.lamp.specs.declared.Refusal.{Refusal}
 
 -- acceptance with what is answered, or a refusal's number and place
 pub data Reply (A : Type 0) : Type 0 where
   accepted : A → Reply A
   refused : ℕ → ℕ → Reply A
 
--- the reply that an answer stands for: n or 2k, or the refusal's number and place
-abbrev pub reply_of : Answer → Reply ℕ
-reply_of (Accepted n) = accepted n
-reply_of (Refused r) = refused (number_of r) (place_of r)
+-- the reply that an answer stands for: what it answers, as n, 2k or a record, or the refusal's number and place
+abbrev pub reply_of : {A : Type 0} → Result A Refusal → Reply A
+reply_of (Ok v) = accepted v
+reply_of (Err r) = refused (number_of r) (place_of r)
 
 -- L1: the first row that applies refuses the call; if none does, it is accepted.
 unfoldable pub given : {A : Type 0} → List Row → List ℕ → (List ℕ → A) → Reply A
 given [] s answer = accepted (answer s)
 given (r ∷ rows) s answer = elim (r.when s) [ true ↦ refused r.number (r.place s) | false ↦ given rows s answer ]
+
+-- the rows alone: where none applies, nothing is answered
+abbrev pub nothing : List ℕ → Unit {0}
+nothing s = tt
+
+abbrev pub tried : List Row → List ℕ → Reply (Unit {0})
+tried rows s = given rows s nothing
 
 -- check: accepted with n
 unfoldable pub check_reply : List ℕ → Reply ℕ

@@ -6,3 +6,4 @@ pub mod Finer
 pub mod FirstWrong
 pub mod ReadBack
 pub mod Loaded
+pub mod Lent

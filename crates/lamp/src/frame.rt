@@ -1,73 +1,63 @@
 // The header's groups of rows: the opening, the size and the sum.
 ghost use Rattle.std.specs.Prelude.{◌≡◌, ◌++◌};
-ghost use Rattle.block.specs.Block.{posts, Headed};
+ghost use Rattle.block.specs.Block.{posts};
 ghost use Rattle.lamp.specs.Lamp.{opening_rows, size_rows, header_rows, sum_rows};
-ghost use Rattle.lamp.specs.Given.{reply_of, given};
+ghost use Rattle.lamp.specs.Given.{reply_of, given, tried};
 
-use crate::{Answer, Refusal};
-use block::Block;
+use crate::Refusal;
+use block::{Block, Body};
 
 // At least 7 bytes, the mark and the version; the block's n is answered where none applies.
-fn opening(s: &[u8]) -> Answer
+fn opening(s: &[u8]) -> Result<u16, Refusal>
     ensures { reply_of result ≡ given opening_rows s.now posts }
 {
     if s.len() < Block::ORDER_AT {
-        return Answer::Refused(Refusal::Short);
+        return Err(Refusal::Short);
     }
     if !block::is_marked(s) {
-        return Answer::Refused(Refusal::Mark);
+        return Err(Refusal::Mark);
     }
     if words::word(s, Block::VERSION_AT) != 1 {
-        return Answer::Refused(Refusal::Version);
+        return Err(Refusal::Version);
     }
-    Answer::Accepted(words::word(s, Block::POSTS_AT))
+    Ok(words::word(s, Block::POSTS_AT))
 }
 
 // The range of n, and the length.
-fn sized(s: &[u8], b: Block) -> Answer
+fn sized(s: &[u8], b: Block) -> Result<(), Refusal>
     requires { b.n ≡ posts s.now }
-    ensures { reply_of result ≡ given size_rows s.now posts }
+    ensures { reply_of result ≡ tried size_rows s.now }
 {
-    let n = b.n;
-    if n < 3 {
-        return Answer::Refused(Refusal::Posts);
+    if b.n < 3 {
+        return Err(Refusal::Posts);
     }
-    if Block::LIMIT < n {
-        return Answer::Refused(Refusal::Posts);
+    if Block::LIMIT < b.n {
+        return Err(Refusal::Posts);
     }
     if s.len() != b.size() {
-        return Answer::Refused(Refusal::Length);
+        return Err(Refusal::Length);
     }
-    Answer::Accepted(n as u16)
+    Ok(())
 }
 
 // The sum.
-fn summed(s: &[u8], b: Block) -> Answer
-    requires { Headed s.now b.n }
-    ensures { reply_of result ≡ given sum_rows s.now posts }
+fn summed(b: Body<'_>) -> Result<(), Refusal>
+    ensures { reply_of result ≡ tried sum_rows b.entry.bytes.now }
 {
-    let n = b.n as u16;
-    let e = b.sum_at();
-    if words::word(s, e) != words::sum(s, e) {
-        return Answer::Refused(Refusal::Sum);
+    let e = b.block.sum_at();
+    if words::word(b.bytes, e) != words::sum(&b.bytes[..e]) {
+        return Err(Refusal::Sum);
     }
-    Answer::Accepted(n)
+    Ok(())
 }
 
-// Mark, version, n, length and sum.
-pub fn header(s: &[u8]) -> Answer
+// Mark, version, n, length and sum; n is answered where none applies.
+pub fn header(s: &[u8]) -> Result<u16, Refusal>
     ensures { reply_of result ≡ given (header_rows ++ sum_rows) s.now posts }
 {
-    let o = opening(s);
-    let Answer::Accepted(posts) = o else {
-        return o;
-    };
-    let b = Block {
-        n: words::number(posts),
-    };
-    let z = sized(s, b);
-    let Answer::Accepted(_) = z else {
-        return z;
-    };
-    summed(s, b)
+    let n = opening(s)?;
+    let block = Block { n: usize::from(n) };
+    sized(s, block)?;
+    summed(Body { bytes: s, block })?;
+    Ok(n)
 }

@@ -1,120 +1,114 @@
 // The groups of rows over loaded lists: rings, triangles, the outer triangle, and the rule per position.
-ghost use Rattle.std.specs.Prelude.{◌≡◌, ◌+◌, ◌≤◌, length};
-ghost use Rattle.block.specs.Block.{posts, order, lists};
+ghost use Rattle.std.specs.Prelude.{◌≡◌, ◌+◌, ◌≤◌, length, OnOk};
+ghost use Rattle.block.specs.Block.{order, lists};
 ghost use Rattle.order.specs.Ranked.{Ranked, RunsBefore};
 ghost use Rattle.lamp.specs.Lamp.{ring_rows, triangle_rows, outer_rows, position_rows};
-ghost use Rattle.lamp.specs.Given.{reply_of, given};
-ghost use Rattle.lamp.specs.Loaded.{board_rows, rows_from, WideOrder, Trimmed, Ringed, RunsIf};
+ghost use Rattle.lamp.specs.Given.{reply_of, given, tried};
+ghost use Rattle.lamp.specs.Loaded.{refusal_for, run_here, board_rows, rows_from, Wide, Loaded, Trimmed, Ringed};
 
-use crate::{Answer, Refusal};
-use order::Fit;
-use rings::ListFault;
+use crate::Refusal;
+use block::Body;
+use order::{Misfit, Plan, Run};
+use rings::{ListFault, Lists};
 
-// The ring rule, by which fault it is that a list has.
-fn rings_of(s: &[u8], vs: &[u16], at: &[u16], ents: &[u16]) -> Answer
-    requires { Trimmed s.now vs.now at.now ents.now }
-    ensures { reply_of result ≡ given ring_rows s.now posts }
-{
-    let f = rings::first_bad_ring(ents, at);
-    match f {
-        ListFault::Sound => Answer::Accepted(vs.len() as u16),
-        ListFault::High(u) => Answer::Refused(Refusal::High(u)),
-        ListFault::Itself(u) => Answer::Refused(Refusal::Itself(u)),
-        ListFault::Repeated(u) => Answer::Refused(Refusal::Repeated(u)),
-        ListFault::Unreturned(u) => Answer::Refused(Refusal::Unreturned(u)),
-    }
-}
+impl From<ListFault> for Refusal {
+    ghost from_gives = { λ f r. r ≡ refusal_for f };
 
-// The triangle rule.
-fn triangles_of(s: &[u8], vs: &[u16], at: &[u16], ents: &[u16]) -> Answer
-    requires { Trimmed s.now vs.now at.now ents.now }
-    ensures { reply_of result ≡ given triangle_rows s.now posts }
-{
-    let n = vs.len();
-    let u = rings::first_bad_triangle(ents, at);
-    if u < n {
-        return Answer::Refused(Refusal::Triangle(u as u16));
-    }
-    Answer::Accepted(n as u16)
-}
-
-// The outer triangle.
-fn outer_of(s: &[u8], vs: &[u16], at: &[u16], ents: &[u16]) -> Answer
-    requires { Trimmed s.now vs.now at.now ents.now }
-    ensures { reply_of result ≡ given outer_rows s.now posts }
-{
-    let n = vs.len();
-    if !rings::is_outer(ents, at, vs[0], vs[1], vs[n - 1]) {
-        return Answer::Refused(Refusal::Outer);
-    }
-    Answer::Accepted(n as u16)
-}
-
-// Rings, triangles and the outer triangle.
-pub fn board(s: &[u8], vs: &[u16], at: &[u16], ents: &[u16]) -> Answer
-    requires { Trimmed s.now vs.now at.now ents.now }
-    ensures { reply_of result ≡ given board_rows s.now posts }
-{
-    let g = rings_of(s, vs, at, ents);
-    let Answer::Accepted(_) = g else {
-        return g;
-    };
-    let t = triangles_of(s, vs, at, ents);
-    let Answer::Accepted(_) = t else {
-        return t;
-    };
-    outer_of(s, vs, at, ents)
-}
-
-// The rule at position k. Where no row applies, k is answered, and the run that is found there is kept.
-fn position(
-    s: &[u8],
-    vs: &[u16],
-    at: &[u16],
-    ents: &[u16],
-    rank: &[u16],
-    begin: &mut [u16],
-    long: &mut [u16],
-    k: usize,
-) -> Answer
-    requires { Trimmed s.now vs.now at.now ents.now × Ranked vs.now rank.now × Ringed s.now × (1 ≤ k) × (k ≤ length vs.now)
-        × WideOrder rank.now begin.old long.old × RunsBefore (lists s.now) (order s.now) begin.old long.old k }
-    ensures { (reply_of result ≡ given (position_rows k) s.now (λ z. k))
-        × RunsIf result s.now (k + 1) begin.new long.new }
-{
-    match order::rule_at(ents, at, vs, rank, k) {
-        Fit::Good(place, many) => {
-            begin[k - 1] = place;
-            long[k - 1] = many;
-            Answer::Accepted(k as u16)
+    fn from(f: ListFault) -> Refusal {
+        match f {
+            ListFault::High(u) => Refusal::High(u),
+            ListFault::Itself(u) => Refusal::Itself(u),
+            ListFault::Repeated(u) => Refusal::Repeated(u),
+            ListFault::Unreturned(u) => Refusal::Unreturned(u),
         }
-        Fit::Few => Answer::Refused(Refusal::Few(k as u16)),
-        Fit::Broken => Answer::Refused(Refusal::Broken(k as u16)),
     }
 }
 
-// The rule per position, at positions 3 to n in turn. Where it holds at all of them, begin and long tell the run of each.
-pub fn fitting(
-    s: &[u8],
-    vs: &[u16],
-    at: &[u16],
-    ents: &[u16],
-    rank: &[u16],
-    begin: &mut [u16],
-    long: &mut [u16],
-) -> Answer
-    requires { Trimmed s.now vs.now at.now ents.now × Ranked vs.now rank.now × Ringed s.now
-        × WideOrder rank.now begin.old long.old }
-    ensures { (reply_of result ≡ given (rows_from 3 (length vs.now)) s.now posts)
-        × RunsIf result s.now (length vs.now + 1) begin.new long.new }
-{
-    let n = vs.len();
-    let mut k = 3;
-    while k <= n {
-        if let Answer::Refused(r) = position(s, vs, at, ents, rank, begin, long, k) {
-            return Answer::Refused(r);
-        }
-        k += 1;
+// A block's bytes, and its lists and its order in arrays that are just so long.
+#[derive(Clone, Copy)]
+pub struct Board<'a> {
+    pub s: &'a [u8],
+    pub plan: Plan<'a>,
+    pub ghost trimmed: { Trimmed s.now plan.vs.now plan.lists.at.now plan.lists.ents.now },
+}
+
+impl<'a> Board<'a> {
+    // The fronts of longer arrays that hold the block's order and lists.
+    pub fn held(b: Body<'a>, vs: &'a [u16], at: &'a [u16], ents: &'a [u16]) -> Board<'a>
+        requires { Wide vs.now at.now ents.now × Loaded b.bytes.now b.block.n vs.now at.now ents.now }
+        ensures { result.s.now ≡ b.entry.bytes.now }
+    {
+        let n = b.block.n;
+        let lists = Lists {
+            at: &at[..n + 1],
+            ents: &ents[..b.block.entries()],
+        };
+        let plan = Plan {
+            lists,
+            vs: &vs[..n],
+        };
+        Board { s: b.bytes, plan }
     }
-    Answer::Accepted(n as u16)
+
+    // The ring rule, by which fault it is that a list has.
+    fn rings(self) -> Result<(), Refusal>
+        ensures { reply_of result ≡ tried ring_rows self.entry.s.now }
+    {
+        self.plan.lists.first_bad_ring()?;
+        Ok(())
+    }
+
+    // The triangle rule.
+    fn triangles(self) -> Result<(), Refusal>
+        ensures { reply_of result ≡ tried triangle_rows self.entry.s.now }
+    {
+        match self.plan.lists.first_bad_triangle() {
+            Some(u) => Err(Refusal::Triangle(u)),
+            None => Ok(()),
+        }
+    }
+
+    // The outer triangle.
+    fn outer(self) -> Result<(), Refusal>
+        ensures { reply_of result ≡ tried outer_rows self.entry.s.now }
+    {
+        let vs = self.plan.vs;
+        if !self.plan.lists.is_outer(vs[0], vs[1], vs[vs.len() - 1]) {
+            return Err(Refusal::Outer);
+        }
+        Ok(())
+    }
+
+    // Rings, triangles and the outer triangle.
+    pub fn lists(self) -> Result<(), Refusal>
+        ensures { reply_of result ≡ tried board_rows self.entry.s.now }
+    {
+        self.rings()?;
+        self.triangles()?;
+        self.outer()
+    }
+
+    // The rule at position k; the run that is found there is answered where no row applies.
+    fn position(self, rank: &[u16], k: usize) -> Result<Run, Refusal>
+        requires { Ranked self.plan.vs.now rank.now × Ringed self.s.now × (1 ≤ k) × (k ≤ length self.plan.vs.now) }
+        ensures { reply_of result ≡ given (position_rows k) self.entry.s.now (run_here k) }
+    {
+        match self.plan.rule_at(rank, k) {
+            Ok(run) => Ok(run),
+            Err(Misfit::Few) => Err(Refusal::Few(k as u16)),
+            Err(Misfit::Broken) => Err(Refusal::Broken(k as u16)),
+        }
+    }
+
+    // The rule per position, at positions 3 to n in turn. Where it holds at all of them, the run of each is kept.
+    pub fn fitting(self, rank: &[u16], runs: &mut [Run]) -> Result<(), Refusal>
+        requires { Ranked self.plan.vs.now rank.now × Ringed self.s.now × (length self.plan.vs.now ≤ length runs.old) }
+        ensures reply { reply_of result ≡ tried (rows_from 3 (length self.entry.plan.vs.now)) self.entry.s.now }
+        ensures kept { OnOk result (RunsBefore (lists self.entry.s.now) (order self.entry.s.now) runs.new (length self.entry.plan.vs.now + 1)) }
+    {
+        for k in 3..self.plan.vs.len() + 1 {
+            runs[k - 1] = self.position(rank, k)?;
+        }
+        Ok(())
+    }
 }

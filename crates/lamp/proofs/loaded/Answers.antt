@@ -1,31 +1,46 @@
 use native.Mathlib.Omega.{arith}
-use Prim.Native.Nat.{ℕ, ◌+◌}
-use mathlib.Core.Path.{sym, subst⁻¹}
-use lib.ListN.{take}
-use lib.Seq.{length-take-le}
-use Rattle.lamp.specs.Loaded.{Trimmed}
-use Rattle.lamp.proofs.Loads.{trimmed}
+use Prim.Native.Nat.{ℕ}
+use mathlib.Core.Path.{ap, ◌∙◌, subst, subst⁻¹}
+use mathlib.Core.List.{List, ◌++◌}
+use Rattle.std.proofs.lemmas.Result.{err_from_is_err_and, on_ok_weaker}
+use Rattle.block.specs.Block.{posts}
+use Rattle.lamp.specs.Lamp.{ring_rows, triangle_rows, outer_rows}
+use Rattle.lamp.specs.Given.{nothing, tried}
+use Rattle.lamp.specs.Loaded.{board_rows, loaded_rows, rows_from, Entered, Ordered}
+use Rattle.lamp.proofs.Given.{none_left}
+use Rattle.lamp.proofs.Tried.{none_applied, stops, goes_on}
+use Rattle.lamp.proofs.Loads.{ordered}
+use Rattle.lamp.proofs.BoardRows.{ringed}
 use Rattle.lamp.proofs.loaded.Goals as goal
 
-pub slice_bounds-order_and_board-end : goal.slice_bounds-order_and_board-end
-slice_bounds-order_and_board-end c =
-    sym (length-take-le _ _ (omega arith))
+pub returns-in_err-lists-clause-reply : goal.returns-in_err-lists-clause-reply
+returns-in_err-lists-clause-reply c =
+    let told = c.lists.ensures ∙ ap (tried board_rows) c.held-board.ensures in
+    let p = err_from_is_err_and c.from_residual.result c.from_residual.ensures.1 in
+    rw (p.1, p.2) (stops c.args.b.bytes.now nothing board_rows _ told nothing (rows_from 3 (posts c.args.b.bytes.now)) _ c.in_err-lists.was)
 
-pub slice_bounds-order_and_board-end-2 : goal.slice_bounds-order_and_board-end-2
-slice_bounds-order_and_board-end-2 c =
-    sym (length-take-le _ _ (omega arith))
+pub fitting-requires : goal.fitting-requires
+fitting-requires c =
+    let board = c.held-board.result in
+    let names = subst⁻¹ Entered c.held-board.ensures c.requires.1 in
+    let none = none_applied board.s.now nothing board_rows _ c.lists.ensures _ c.in_ok-lists.was in
+    let fine = ringed _ names (none_left ring_rows (triangle_rows ++ outer_rows) _ none) in
+    (c.ranks.ensures, fine, omega (arith, board.trimmed.headed.most, c.requires.2.known))
 
-pub slice_bounds-order_and_board-end-3 : goal.slice_bounds-order_and_board-end-3
-slice_bounds-order_and_board-end-3 c =
-    sym (length-take-le _ _ (omega arith))
+pub returns-clause-reply : goal.returns-clause-reply
+returns-clause-reply c =
+    let board = c.held-board.result in
+    let s = board.s.now in
+    c.fitting.ensures.reply
+    ∙ ap (λ (n : ℕ). tried (rows_from 3 n) s) board.trimmed.headed.is
+    ∙ goes_on s nothing board_rows _ c.lists.ensures nothing (rows_from 3 (posts s)) _ c.in_ok-lists.was
+    ∙ ap (λ (z : List ℕ). tried (loaded_rows z) z) c.held-board.ensures
 
-pub order_and_board-requires : goal.order_and_board-requires
-order_and_board-requires c =
-    let s = c.args.s.now in
-    let n = c.args.b.n in
-    let vs = c.args.vs.now in
-    let at = c.args.at.now in
-    let ents = c.args.ents.now in
-    let L = trimmed s n vs at ents c.requires.0 (omega (arith, c.requires.1.places)) c.requires.2 in
-    let T = subst⁻¹ (λ (m : ℕ). Trimmed s (take n vs) (take (n + 1) at) (take m ents)) c.entries-e.ensures L in
-    (T, c.requires.4, c.requires.3)
+pub returns-clause-kept : goal.returns-clause-kept
+returns-clause-kept c =
+    let board = c.held-board.result in
+    let T = board.trimmed in
+    on_ok_weaker c.fitting.result
+    (λ K. subst (λ (z : List ℕ). Ordered z c.ranks.new.rank c.fitting.new.runs) c.held-board.ensures
+    (ordered board.s.now board.plan.vs.now c.ranks.new.rank c.fitting.new.runs T.headed.is T.orders c.ranks.ensures K))
+    c.fitting.ensures.kept

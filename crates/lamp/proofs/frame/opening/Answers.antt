@@ -1,4 +1,6 @@
-use mathlib.Core.Path.{sym, ◌∙◌}
+use mathlib.Core.Path.{sym, ap, ◌∙◌}
+use Rattle.block.specs.Block.{posts}
+use Rattle.lamp.specs.Given.{accepted}
 use Rattle.lamp.specs.Lamp.{opening_rows}
 use Rattle.lamp.proofs.Tried.{none_stops}
 use Rattle.lamp.proofs.Heads.{short, no_mark, other_version, opening_passes}
@@ -19,4 +21,4 @@ pub returns : goal.returns
 returns c =
     let mark = sym c.is_marked.ensures ∙ c.if-not-is_marked.false in
     let one = sym c.word.ensures ∙ c.if-word-ne1.false in
-    none_stops _ opening_rows _ c.word-2.ensures (opening_passes _ c.if-s-lt-ORDER_AT.false mark one)
+    ap accepted c.word-2.ensures ∙ none_stops _ posts opening_rows (opening_passes _ c.if-s-lt-ORDER_AT.false mark one)
