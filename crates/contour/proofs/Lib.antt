@@ -1,4 +1,2 @@
 pub mod Paths
 pub mod Reading
-pub mod Signed
-pub mod Made

@@ -3,7 +3,6 @@ use Prim.Native.Nat.{ℕ, suc, ◌+◌, ◌-◌, ◌≤◌, ◌<◌}
 use mathlib.Core.Path.{◌≡◌, refl, ap, sym, ◌∙◌, subst}
 use mathlib.Core.List.{List, [], ◌∷◌}
 use native.Mathlib.Omega.{arith}
-use native.Mathlib.Nat.{sub-zero}
 use lib.ListN.{length, get_or, set, length-set}
 use Rattle.block.specs.Layout.{bias}
 use Rattle.contour.specs.Arrays.{path, walk, along, Below, covered, hung, SumsFit}
@@ -59,52 +58,50 @@ covered_nil cover v = refl
 -- ---- to the post m places right of p, with the sum of the offsets
 pub record Reach (right off : List ℕ) (p m a s i : ℕ) : Type 0 where
   pub upto : i ≤ m
+  pub small : a < 65536
   pub goes : walk right a (m - i) ≡ walk right p m
   pub sums : s + along off (path right (get_or right a 0) (m - i)) ≡ along off (path right (get_or right p 0) m)
   pub in_right : Below (length right) (path right a (m - i))
   pub in_off : Below (length off) (path right (get_or right a 0) (m - i))
 
-pub reach_start : (right off : List ℕ) (p m : ℕ) → Below (length right) (path right p m) → Below (length off) (path right (get_or right p 0) m)
-    → Reach right off p m p 0 0
-reach_start right off p m h k =
-    let z = sub-zero m in
-    record { upto = omega arith; goes = rw z refl; sums = rw z (omega arith); in_right = rw z h; in_off = rw z k }
-
-module _ (right off : List ℕ) (p m a s i : ℕ) (R : Reach right off p m a s i) where
+module _ {right off : List ℕ} {p m a s i : ℕ} (R : Reach right off p m a s i) where
   pub reach_end : m ≤ i → (a ≡ walk right p m) × (s ≡ along off (path right (get_or right p 0) m))
   reach_end h = (sym (walk_done right a i m h) ∙ R.goes, omega (arith, R.sums, ap (along off) (path_done right (get_or right a 0) i m h), along_nil off))
 
   -- j is a, and b is its right neighbour
-  module _ (h : i < m) (j b : ℕ) (ej : j ≡ a) (eb : b ≡ get_or right j 0) where
-    next : get_or right a 0 ≡ b
-    next = rw (eb, ej) refl
-
+  module _ (h : i < m) {j : ℕ} (ej : j ≡ a) where
     pub reach_here : j < length right
     reach_here = rw ej (subst (Below (length right)) (path_turn right a i m h) R.in_right).0
 
-    onward : path right (get_or right a 0) (m - i) ≡ b ∷ path right (get_or right b 0) (m - (i + 1))
-    onward = path_turn right (get_or right a 0) i m h ∙ rw next refl
+    module _ {b : ℕ} (eb : b ≡ get_or right j 0) where
+      next : get_or right a 0 ≡ b
+      next = rw (eb, ej) refl
 
-    pub reach_next : b < length off
-    reach_next = (subst (Below (length off)) onward R.in_off).0
+      onward : path right (get_or right a 0) (m - i) ≡ b ∷ path right (get_or right b 0) (m - (i + 1))
+      onward = path_turn right (get_or right a 0) i m h ∙ rw next refl
 
-    pub reach_sum : s + get_or off b 0 + along off (path right (get_or right b 0) (m - (i + 1))) ≡ along off (path right (get_or right p 0) m)
-    reach_sum = omega (arith, R.sums, ap (along off) onward, along_cons off b (path right (get_or right b 0) (m - (i + 1))))
+      pub reach_next : b < length off
+      reach_next = (subst (Below (length off)) onward R.in_off).0
 
-    pub reach_again : Reach right off p m (get_or right j 0) (s + get_or off b 0) (i + 1)
-    reach_again =
-        subst (λ (a : ℕ). Reach right off p m a (s + get_or off b 0) (i + 1)) eb
-        (record {
-          upto = omega arith;
-          goes = rw (← next) (sym (walk_turn right a i m h) ∙ R.goes);
-          sums = reach_sum;
-          in_right = rw (← next) (subst (Below (length right)) (path_turn right a i m h) R.in_right).1;
-          in_off = (subst (Below (length off)) onward R.in_off).1;
-        })
+      pub reach_sum : s + get_or off b 0 + along off (path right (get_or right b 0) (m - (i + 1))) ≡ along off (path right (get_or right p 0) m)
+      reach_sum = omega (arith, R.sums, ap (along off) onward, along_cons off b (path right (get_or right b 0) (m - (i + 1))))
+
+      pub reach_again : b < 65536 → Reach right off p m (get_or right j 0) (s + get_or off b 0) (i + 1)
+      reach_again small =
+          subst (λ (a : ℕ). Reach right off p m a (s + get_or off b 0) (i + 1)) eb
+          (record {
+            upto = omega arith;
+            small = small;
+            goes = rw (← next) (sym (walk_turn right a i m h) ∙ R.goes);
+            sums = reach_sum;
+            in_right = rw (← next) (subst (Below (length right)) (path_turn right a i m h) R.in_right).1;
+            in_off = (subst (Below (length off)) onward R.in_off).1;
+          })
 
 -- ---- the m posts from `first` on covered
 pub record Hang (right off₀ cover₀ : List ℕ) (first m d v : ℕ) (off cover : List ℕ) (a s i : ℕ) : Type 0 where
   pub upto : i ≤ m
+  pub small : a < 65536
   pub offs : hung off (path right a (m - i)) s d ≡ hung off₀ (path right first m) 1 d
   pub covers : covered cover (path right a (m - i)) v ≡ covered cover₀ (path right first m) v
   pub fits : SumsFit off (path right a (m - i)) s d
@@ -114,66 +111,49 @@ pub record Hang (right off₀ cover₀ : List ℕ) (first m d v : ℕ) (off cove
   pub in_off : Below (length off₀) (path right a (m - i))
   pub in_cover : Below (length cover₀) (path right a (m - i))
 
-module _ (right off₀ cover₀ : List ℕ) (first m d v : ℕ) where
-  pub hang_start : Below (length right) (path right first m) → Below (length off₀) (path right first m) → Below (length cover₀) (path right first m)
-      → SumsFit off₀ (path right first m) 1 d
-      → Hang right off₀ cover₀ first m d v off₀ cover₀ first 1 0
-  hang_start h k l f =
-      let z = sub-zero m in
-      record {
-        upto = omega arith;
-        offs = rw z refl;
-        covers = rw z refl;
-        fits = rw z f;
-        same_off = refl;
-        same_cover = refl;
-        in_right = rw z h;
-        in_off = rw z k;
-        in_cover = rw z l;
-      }
+module _ {right off₀ cover₀ : List ℕ} {first m d v : ℕ} {off cover : List ℕ} {a s i : ℕ} (R : Hang right off₀ cover₀ first m d v off cover a s i) where
+  pub hang_end : m ≤ i → (off ≡ hung off₀ (path right first m) 1 d) × (cover ≡ covered cover₀ (path right first m) v)
+  hang_end h =
+      let e = path_done right a i m h in (
+        sym (hung_nil off s d) ∙ ap (λ (l : List ℕ). hung off l s d) (sym e) ∙ R.offs,
+        sym (covered_nil cover v) ∙ ap (λ (l : List ℕ). covered cover l v) (sym e) ∙ R.covers,
+      )
 
-  module _ (off cover : List ℕ) (a s i : ℕ) (R : Hang right off₀ cover₀ first m d v off cover a s i) where
-    pub hang_end : m ≤ i → (off ≡ hung off₀ (path right first m) 1 d) × (cover ≡ covered cover₀ (path right first m) v)
-    hang_end h =
-        let e = path_done right a i m h in (
-          sym (hung_nil off s d) ∙ ap (λ (l : List ℕ). hung off l s d) (sym e) ∙ R.offs,
-          sym (covered_nil cover v) ∙ ap (λ (l : List ℕ). covered cover l v) (sym e) ∙ R.covers,
-        )
+  module _ (h : i < m) {j : ℕ} (ej : j ≡ a) where
+    abbrev l : List ℕ
+    l = path right (get_or right j 0) (m - (i + 1))
 
-    module _ (h : i < m) (j : ℕ) (ej : j ≡ a) where
-      abbrev l : List ℕ
-      l = path right (get_or right j 0) (m - (i + 1))
+    turn : path right a (m - i) ≡ j ∷ l
+    turn = path_turn right a i m h ∙ rw (← ej) refl
 
-      turn : path right a (m - i) ≡ j ∷ l
-      turn = path_turn right a i m h ∙ rw (← ej) refl
+    pub hang_right : j < length right
+    hang_right = (subst (Below (length right)) turn R.in_right).0
 
-      pub hang_right : j < length right
-      hang_right = (subst (Below (length right)) turn R.in_right).0
+    pub hang_off : j < length off
+    hang_off = omega (arith, R.same_off, (subst (Below (length off₀)) turn R.in_off).0)
 
-      pub hang_off : j < length off
-      hang_off = omega (arith, R.same_off, (subst (Below (length off₀)) turn R.in_off).0)
+    pub hang_cover : j < length cover
+    hang_cover = omega (arith, R.same_cover, (subst (Below (length cover₀)) turn R.in_cover).0)
 
-      pub hang_cover : j < length cover
-      hang_cover = omega (arith, R.same_cover, (subst (Below (length cover₀)) turn R.in_cover).0)
+    fit : SumsFit off (j ∷ l) s d
+    fit = subst (λ (r : List ℕ). SumsFit off r s d) turn R.fits
 
-      fit : SumsFit off (j ∷ l) s d
-      fit = subst (λ (r : List ℕ). SumsFit off r s d) turn R.fits
+    pub hang_fits : s + get_or off j 0 + bias ≤ 65535
+    hang_fits = fit.0
 
-      pub hang_fits : s + get_or off j 0 + bias ≤ 65535
-      hang_fits = fit.0
-
-      pub hang_again
-          : Hang right off₀ cover₀ first m d v (set off j (s + get_or off j 0 + bias - d)) (set cover j v) (get_or right j 0) (s + get_or off j 0)
-          (i + 1)
-      hang_again =
-          record {
-            upto = omega arith;
-            offs = sym (hung_cons off j l s d) ∙ ap (λ (r : List ℕ). hung off r s d) (sym turn) ∙ R.offs;
-            covers = sym (covered_cons cover j l v) ∙ ap (λ (r : List ℕ). covered cover r v) (sym turn) ∙ R.covers;
-            fits = fit.1;
-            same_off = length-set off j (s + get_or off j 0 + bias - d) ∙ R.same_off;
-            same_cover = length-set cover j v ∙ R.same_cover;
-            in_right = (subst (Below (length right)) turn R.in_right).1;
-            in_off = (subst (Below (length off₀)) turn R.in_off).1;
-            in_cover = (subst (Below (length cover₀)) turn R.in_cover).1;
-          }
+    pub hang_again : get_or right j 0 < 65536
+        → Hang right off₀ cover₀ first m d v (set off j (s + get_or off j 0 + bias - d)) (set cover j v) (get_or right j 0) (s + get_or off j 0)
+        (i + 1)
+    hang_again small =
+        record {
+          upto = omega arith;
+          small = small;
+          offs = sym (hung_cons off j l s d) ∙ ap (λ (r : List ℕ). hung off r s d) (sym turn) ∙ R.offs;
+          covers = sym (covered_cons cover j l v) ∙ ap (λ (r : List ℕ). covered cover r v) (sym turn) ∙ R.covers;
+          fits = fit.1;
+          same_off = length-set off j (s + get_or off j 0 + bias - d) ∙ R.same_off;
+          same_cover = length-set cover j v ∙ R.same_cover;
+          in_right = (subst (Below (length right)) turn R.in_right).1;
+          in_off = (subst (Below (length off₀)) turn R.in_off).1;
+          in_cover = (subst (Below (length cover₀)) turn R.in_cover).1;
+        }

@@ -1,2 +1,4 @@
 pub mod Arrays
 pub mod Columns
+pub mod Entries
+pub mod Lent

@@ -61,23 +61,22 @@ pub record Writing (f g : ℕ → ℕ) (vs : List ℕ) (k : ℕ) (buffer₀ buff
   pub is : buffer ≡ twos f g (take i vs) ++ drop (2 * i) buffer₀
   pub same : length buffer ≡ length buffer₀
 
-module _ (f g : ℕ → ℕ) (vs : List ℕ) (k : ℕ) (buffer₀ : List ℕ) where
-  pub write_start : Writing f g vs k buffer₀ buffer₀ 0
-  write_start = record { upto = omega arith; is = rw (twos_none f g) refl; same = refl }
+pub write_start : (f g : ℕ → ℕ) (vs : List ℕ) (k : ℕ) (buffer₀ : List ℕ) → Writing f g vs k buffer₀ buffer₀ 0
+write_start f g vs k buffer₀ = record { upto = omega arith; is = rw (twos_none f g) refl; same = refl }
 
-  module _ (buffer : List ℕ) (i : ℕ) (R : Writing f g vs k buffer₀ buffer i) where
-    pub write_done : i ≡ k → buffer ≡ twos f g (take k vs) ++ drop (2 * k) buffer₀
-    write_done e = rw (← e) R.is
+module _ {f g : ℕ → ℕ} {vs : List ℕ} {k : ℕ} {buffer₀ buffer : List ℕ} {i : ℕ} (R : Writing f g vs k buffer₀ buffer i) where
+  pub write_done : k ≤ i → buffer ≡ twos f g (take k vs) ++ drop (2 * k) buffer₀
+  write_done h = let e : k ≡ i = omega (arith, R.upto) in rw e R.is
 
-    pub write_again : i < k → k ≤ length vs → 2 * k ≤ length buffer₀ → (x y : ℕ) → x ≡ f (get_or vs i 0) → y ≡ g (get_or vs i 0)
-        → Writing f g vs k buffer₀ (set (set buffer (2 * i) x) (2 * i + 1) y) (i + 1)
-    write_again h l b x y ex ey =
-        let n : length (twos f g (take i vs)) ≡ 2 * i = omega (arith, twos_length f g (take i vs), length-take-le i vs (omega arith)) in
-        let m : 2 * (i + 1) ≡ 2 * i + 2 = omega arith in
-        let t : twos f g (take (i + 1) vs) ≡ twos f g (take i vs) ++ x ∷ y ∷ [] =
-        rw (add-one, take-suc vs i 0 (omega arith), ex, ey) (twos_append f g (take i vs) (get_or vs i 0)) in
-        record {
-          upto = omega arith;
-          is = rw (t, m, R.is) (two_more (twos f g (take i vs)) buffer₀ (2 * i) x y n (omega arith));
-          same = simp length-set R.same;
-        }
+  pub write_again : i < k → k ≤ length vs → 2 * k ≤ length buffer₀ → {x y : ℕ} → x ≡ f (get_or vs i 0) → y ≡ g (get_or vs i 0)
+      → Writing f g vs k buffer₀ (set (set buffer (2 * i) x) (2 * i + 1) y) (i + 1)
+  write_again h l b {x} {y} ex ey =
+      let n : length (twos f g (take i vs)) ≡ 2 * i = omega (arith, twos_length f g (take i vs), length-take-le i vs (omega arith)) in
+      let m : 2 * (i + 1) ≡ 2 * i + 2 = omega arith in
+      let t : twos f g (take (i + 1) vs) ≡ twos f g (take i vs) ++ x ∷ y ∷ [] =
+      rw (add-one, take-suc vs i 0 (omega arith), ex, ey) (twos_append f g (take i vs) (get_or vs i 0)) in
+      record {
+        upto = omega arith;
+        is = rw (t, m, R.is) (two_more (twos f g (take i vs)) buffer₀ (2 * i) x y n (omega arith));
+        same = simp length-set R.same;
+      }

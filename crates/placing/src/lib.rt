@@ -31,11 +31,9 @@ pub fn write_sheet(vs: &[u16], k: usize, xs: &[u16], ys: &[u16], buffer: &mut [u
         × ((i : ℕ) → i < k → (get_or vs.now i 0 < length xs.now) × (get_or vs.now i 0 < length ys.now)) }
     ensures { buffer.new ≡ pairs xs.now ys.now (take k vs.now) ++ drop (2 * k) buffer.old }
 {
-    let mut i = 0;
-    while i < k {
-        let u = words::number(vs[i]);
+    for (i, v) in vs[..k].iter().enumerate() {
+        let u = usize::from(*v);
         buffer[2 * i] = xs[u];
         buffer[2 * i + 1] = ys[u];
-        i += 1;
     }
 }

@@ -13,7 +13,7 @@ use Rattle.rings.specs.Plane.{Plane, Follows, OuterTriangle}
 use Rattle.rings.proofs.Around.{After, follows_after}
 use Rattle.rings.proofs.Says.{Faces, next_corner}
 use Rattle.order.proofs.Contour.{Rings, Contour}
-use Rattle.order.proofs.Runs.{rings}
+use Rattle.order.proofs.NewRun.{rings}
 use Rattle.order.specs.Fitting.{FitsSoFar}
 use Rattle.order.proofs.Fitting.{fits_faces, fits_outer, fits_once}
 use Rattle.placing.specs.Stages.{Stage, third, place, stage}

@@ -1,11 +1,25 @@
-use Rattle.std.proofs.Common.{rules}
-use Rattle.contour.proofs.Reading.{settle_done, settle_again}
+use Rattle.std.proofs.Common.{take}
+use Rattle.std.proofs.lemmas.List.{length_push}
+use Rattle.std.proofs.lemmas.Iterator.Adapters.{YieldsList-from_rev_slice}
+use Rattle.std.proofs.lemmas.Iterator.Consumers.{YieldsList-turn, YieldsList-end}
+use Rattle.contour.proofs.Reading.{settle_done, settle_ready, settle_again}
 use Rattle.contour.proofs.settle.Goals as goal
 
-pub loop-i-preserved : goal.loop-i-preserved
-loop-i-preserved c =
-    let u = c.number-u.ensures.0 in
-    settle_again _ _ _ _ _ c.requires.0 _ _ c.loop-i.invariant (search rules) _ _ u c.number-c.ensures.0 _ c.column.ensures
+pub column-requires : goal.column-requires
+column-requires c =
+    let gives = YieldsList-from_rev_slice (take c.args.k c.args.vs.now) (cc) in
+    let t = YieldsList-turn gives c.loop-v.yielded _ c.loop-v.yielded_by _ _ c.in-Some.v c.in-Some.is c.next.ensures.steps in
+    settle_ready c.requires.0 c.loop-v.invariant t c.from-u.ensures c.from-c.ensures
+
+pub loop-v-preserved : goal.loop-v-preserved
+loop-v-preserved c =
+    let gives = YieldsList-from_rev_slice (take c.args.k c.args.vs.now) (cc) in
+    let t = YieldsList-turn gives c.loop-v.yielded _ c.loop-v.yielded_by _ _ c.in-Some.v c.in-Some.is c.next.ensures.steps in
+    rw (length_push c.loop-v.yielded c.in-Some.v)
+    (settle_again c.requires.0 c.loop-v.invariant t c.from-u.ensures c.from-c.ensures c.column.ensures)
 
 pub returns : goal.returns
-returns c = settle_done _ _ _ _ _ c.requires.0 _ _ c.loop-i.invariant (search rules)
+returns c =
+    let gives = YieldsList-from_rev_slice (take c.args.k c.args.vs.now) (cc) in
+    let t = YieldsList-end gives c.loop-v.yielded _ c.loop-v.yielded_by _ _ c.in-None.is c.next.ensures.steps in
+    settle_done c.requires.0 c.loop-v.invariant t.1

@@ -4,30 +4,22 @@ use Rattle.contour.proofs.Reading.{spread_end, spread_again}
 use Rattle.contour.proofs.spread.Goals as goal
 
 pub bounds-off-j : goal.bounds-off-j
-bounds-off-j c = spread_off _ _ _ _ _ _ _ _ _ _ c.loop-i.invariant (search rules) _ c.number-j.ensures.0
+bounds-off-j c = spread_off c.loop.invariant (search rules) c.from-j.ensures
 
 pub overflow_add-s : goal.overflow_add-s
-overflow_add-s c =
-    let fits = c.requires.fits in
-    omega (arith, spread_fits _ _ _ _ _ _ _ _ _ _ c.loop-i.invariant (search rules) _ c.number-j.ensures.0 fits)
+overflow_add-s c = omega (arith, spread_fits c.loop.invariant (search rules) c.from-j.ensures c.requires.fits)
 
 pub bounds-xs-j : goal.bounds-xs-j
-bounds-xs-j c = spread_xs _ _ _ _ _ _ _ _ _ _ c.loop-i.invariant (search rules) _ c.number-j.ensures.0
+bounds-xs-j c = spread_xs c.loop.invariant (search rules) c.from-j.ensures
 
 pub returns-then-a-v2 : goal.returns-then-a-v2
-returns-then-a-v2 c =
-    let j = c.number-j.ensures.0 in
-    spread_end _ _ _ _ _ _ _ _ _ _ c.loop-i.invariant (search rules) _ j c.if-a-v2.true
+returns-then-a-v2 c = spread_end c.loop.invariant (search rules) c.from-j.ensures c.if-a-v2.true
 
 pub bounds-right-j : goal.bounds-right-j
-bounds-right-j c =
-    let j = c.number-j.ensures.0 in
-    spread_right _ _ _ _ _ _ _ _ _ _ c.loop-i.invariant (search rules) _ j
+bounds-right-j c = spread_right c.loop.invariant (search rules) c.from-j.ensures
 
-pub loop-i-preserved : goal.loop-i-preserved
-loop-i-preserved c =
-    let j = c.number-j.ensures.0 in
-    spread_again _ _ _ _ _ _ _ _ _ _ c.loop-i.invariant (search rules) _ j c.if-a-v2.false
+pub loop-preserved : goal.loop-preserved
+loop-preserved c = spread_again c.loop.invariant (search rules) c.from-j.ensures (search rules) c.if-a-v2.false
 
 pub returns : goal.returns
-returns c = spread_done _ _ _ _ _ _ _ _ _ _ c.loop-i.invariant (search rules)
+returns c = spread_done c.loop.invariant (search rules)
