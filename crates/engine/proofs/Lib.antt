@@ -1,3 +1,4 @@
+pub mod Known
 pub mod Kept
 pub mod Stepped
 pub mod Along

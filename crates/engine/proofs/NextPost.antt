@@ -21,7 +21,7 @@ use Rattle.engine.specs.Shows.{Shows, Holds}
 use Rattle.engine.proofs.Kept.{Kept, kept_at}
 use Rattle.engine.proofs.Shown.{over_ready, shown, roomy}
 
-module _ (at ents vs : List ℕ) (A : Fitted at ents vs) (k : ℕ) (h : 3 ≤ k) (i : k < length vs) where
+module _ {at ents vs : List ℕ} (A : Fitted at ents vs) {k : ℕ} (h : 3 ≤ k) (i : k < length vs) where
   abbrev G : List (List ℕ)
   G = held at ents
 
@@ -52,7 +52,7 @@ module _ (at ents vs : List ℕ) (A : Fitted at ents vs) (k : ℕ) (h : 3 ≤ k)
       subst (λ (l : List ℕ). run (held at ents) l (post vs (k + 1)) ≡ s.p ∷ (s.M ++ s.q ∷ [])) placed s.run_is
 
   -- v is the next post; its run has m posts, the first is p
-  module _ (v p m : ℕ) (ev : v ≡ get_or vs k 0) (ep : p ≡ post (run (held at ents) (earlier vs (k + 1)) (post vs (k + 1))) 1)
+  module _ {v p m : ℕ} (ev : v ≡ get_or vs k 0) (ep : p ≡ post (run (held at ents) (earlier vs (k + 1)) (post vs (k + 1))) 1)
       (em : m ≡ length (run (held at ents) (earlier vs (k + 1)) (post vs (k + 1)))) where
     v_is : v ≡ post vs (k + 1)
     v_is = let e : k + 1 - 1 ≡ k = omega arith in ev ∙ rw e refl
@@ -66,16 +66,16 @@ module _ (at ents vs : List ℕ) (A : Fitted at ents vs) (k : ℕ) (h : 3 ≤ k)
     m_is : m ≡ length s.M + 2
     m_is = em ∙ ap length run_is ∙ omega (arith, length-append s.M (s.q ∷ []))
 
-    module _ (ys off cover left right : List ℕ) (H : Holds at ents vs k ys off cover left right) where
+    module _ {ys off cover left right : List ℕ} (H : Holds at ents vs k ys off cover left right) where
       pub next_ready : Ready v p m ys off cover left right
       next_ready =
           subst⁻¹ (λ (a : ℕ). Ready a p m ys off cover left right) v_is
           (subst⁻¹ (λ (a : ℕ). Ready (post vs (k + 1)) a m ys off cover left right) p_is
           (over_ready G t (post vs (k + 1)) s K n ys off cover left right H.shows H.room names v_below few m m_is))
 
-      pub next_holds : (ys' off' cover' left' right' : List ℕ) → Over v p m ys off cover left right ys' off' cover' left' right'
+      pub next_holds : {ys' off' cover' left' right' : List ℕ} → Over v p m ys off cover left right ys' off' cover' left' right'
           → Holds at ents vs (k + 1) ys' off' cover' left' right'
-      next_holds ys' off' cover' left' right' O =
+      next_holds {ys'} {off'} {cover'} {left'} {right'} O =
           let O' : Over (post vs (k + 1)) s.p m ys off cover left right ys' off' cover' left' right' =
           subst (λ (a : ℕ). Over (post vs (k + 1)) a m ys off cover left right ys' off' cover' left' right') p_is
           (subst (λ (a : ℕ). Over a p m ys off cover left right ys' off' cover' left' right') v_is O) in

@@ -24,7 +24,7 @@ use Rattle.shift.proofs.DrawnSays.{drawn_within}
 use Rattle.contour.specs.Arrays.{along, Below}
 use Rattle.order.specs.Fitted.{Fitted}
 use Rattle.engine.specs.Shows.{Shows, Holds, Columned}
-use Rattle.contour.specs.Columns.{until, laid, column_of, settled, ColumnFits, Settles, Rooms, Line, Readable, columns_of}
+use Rattle.contour.specs.Columns.{until, laid, column_of, settled, ColumnFits, Settles, Line, Readable, columns_of}
 use Rattle.engine.proofs.Kept.{Kept, kept_at}
 use Rattle.engine.proofs.Along.{Apart, below_all, along_list}
 use Rattle.contour.proofs.Paths.{along_cons}
@@ -64,20 +64,9 @@ laid_at X xs off s y (w ∷ l) e h o b u (inr i) =
     laid_at X (set xs y (s + get_or off y 0)) off (s + get_or off y 0) w l (h y w (inl (refl, refl)) ∙ ap (λ (k : ℕ). k + get_or off w 0) e)
     (λ a c j. h a c (inr j)) o.1 (subst⁻¹ (λ (n : ℕ). Below n (w ∷ l)) (length-set xs y (s + get_or off y 0)) b.1) u i
 
--- the contour laid, the rest is ready
-pub laid_ready : (vs off cover right xs zs : List ℕ) (k : ℕ) → Readable vs off cover right xs k
-    → zs ≡ laid xs off 0 (until right (get_or vs 0 0) (get_or vs 1 0) (length vs))
-    → Rooms vs off cover zs k × Settles zs off cover vs k
-laid_ready vs off cover right xs zs k R e =
-    let n : length zs ≡ length xs = ap length e ∙ laid_length xs off 0 (until right (get_or vs 0 0) (get_or vs 1 0) (length vs)) in
-    let W = R.rooms in (
-      record { of_vs = W.of_vs; of_off = W.of_off; of_cover = W.of_cover; of_xs = λ i h. rw n (W.of_xs i h); of_covers = λ i h. rw n (W.of_covers i h) },
-      rw e R.settles,
-    )
-
 -- ---- a stage of a list that fits so far
-module _ (at ents vs : List ℕ) (A : Fitted at ents vs) (k : ℕ) (h : 3 ≤ k) (i : k ≤ length vs)
-    (ys off cover left right : List ℕ) (H : Holds at ents vs k ys off cover left right) (xs : List ℕ) (room : length (held at ents) ≤ length xs) where
+module _ {at ents vs : List ℕ} (A : Fitted at ents vs) {k : ℕ} (h : 3 ≤ k) (i : k ≤ length vs)
+    {ys off cover left right : List ℕ} (H : Holds at ents vs k ys off cover left right) (xs : List ℕ) (room : length (held at ents) ≤ length xs) where
   abbrev G : List (List ℕ)
   G = held at ents
 
@@ -287,5 +276,5 @@ module _ (at ents vs : List ℕ) (A : Fitted at ents vs) (k : ℕ) (h : 3 ≤ k)
       ((read_all first k (omega arith) start).1 w.0 w.1)
 
   -- so they are drawn
-  pub drawn : (zs : List ℕ) → zs ≡ columns_of vs off cover right xs k → length zs ≡ length xs → Columned at ents vs k ys off cover left right zs
-  drawn zs e n = record { holds = H; column = rw e columns_are; roomy = omega (arith, room) }
+  pub drawn : {zs : List ℕ} → zs ≡ columns_of vs off cover right xs k → length zs ≡ length xs → Columned at ents vs k ys off cover left right zs
+  drawn e n = record { holds = H; column = rw e columns_are; roomy = omega (arith, room) }

@@ -1,22 +1,15 @@
--- How a placed post stands, and its record, by what the code compared.
+-- A post's record, by what the code compared.
 use Prim.Native.Nat.{ℕ, ◌+◌}
 use mathlib.Core.Path.{◌≡◌, refl}
 use mathlib.Core.Bool.{Bool, true, false, not}
 use mathlib.Core.List.{List}
 use lib.ListN.{get_or}
-use borrow.Author.Tests.{eq-eqb, ne_eqb, not-true, not-false}
+use borrow.Author.Tests.{not-true, not-false}
 use Rattle.placing.specs.declared.Standing.{Standing}
-use Rattle.placing.specs.declared.Standing.TheVariants.{Waiting, OnContour, Covered}
+use Rattle.placing.specs.declared.Standing.TheVariants.{Waiting}
 use Rattle.placing.specs.Records.{fit_left, fit_right}
 use Rattle.order.specs.Opens.{before}
 use Rattle.engine.specs.Recorded.{standing_by, record_by}
-
-module _ (cover left right : List ℕ) (u i : ℕ) (ei : i ≡ u) where
-  pub stands_on : get_or cover i 0 ≡ u → OnContour (get_or left i 0) (get_or right i 0) ≡ standing_by cover left right u
-  stands_on e = let f : get_or cover u 0 ≡ u = rw ei at e in rw (ei, eq-eqb (get_or cover u 0) u f) refl
-
-  pub stands_covered : (get_or cover i 0 ≡ u → ⊥) → Covered (get_or cover i 0) ≡ standing_by cover left right u
-  stands_covered n = let f : get_or cover u 0 ≡ u → ⊥ = rw ei at n in rw (ei, ne_eqb (get_or cover u 0) u f) refl
 
 module _ (G : List (List ℕ)) (vs rank : List ℕ) (k : ℕ) (xs ys cover left right : List ℕ) (u : ℕ) (r : Bool) (er : r ≡ before rank (k + 1) u) where
   pub record_waiting : not r ≡ true

@@ -106,33 +106,22 @@ start_shows v1 v2 v3 ys off cover left right ys' off' cover' left' right' C e1 e
     C.below1 C.below2 C.below3)
 
 -- ---- of a list that fits so far
-module _ (at ents vs ys off cover left right : List ℕ) (A : Fitted at ents vs) (W : Room (length (held at ents)) ys off cover left right) where
-  pub corners_ready : Corners (get_or vs 0 0) (get_or vs 1 0) (get_or vs 2 0) ys off cover left right
-  corners_ready =
+module _ {at ents vs : List ℕ} (A : Fitted at ents vs) where
+  -- three posts of the board, which differ
+  pub three_posts : (get_or vs 0 0 < length (held at ents)) × (get_or vs 1 0 < length (held at ents)) × (get_or vs 2 0 < length (held at ents))
+      × (get_or vs 0 0 ≢ get_or vs 1 0) × (get_or vs 0 0 ≢ get_or vs 2 0) × (get_or vs 1 0 ≢ get_or vs 2 0)
+  three_posts =
       let b = A.fits.below in
-      let d = three_differ vs (fits_once (held at ents) A.vn vs A.plane A.fits) A.three in
-      record {
-        n = length (held at ents);
-        room = W;
-        below1 = b (get_or vs 0 0) (place_in vs 0 (omega (arith, A.three)));
-        below2 = b (get_or vs 1 0) (place_in vs 1 (omega (arith, A.three)));
-        below3 = b (get_or vs 2 0) (place_in vs 2 (omega (arith, A.three)));
-        apart12 = d.0;
-        apart13 = d.1;
-        apart23 = d.2;
-      }
+      let d = three_differ vs (fits_once (held at ents) A.vn vs A.plane A.fits) A.three in (
+        b (get_or vs 0 0) (place_in vs 0 (omega (arith, A.three))),
+        b (get_or vs 1 0) (place_in vs 1 (omega (arith, A.three))),
+        b (get_or vs 2 0) (place_in vs 2 (omega (arith, A.three))),
+        d.0,
+        d.1,
+        d.2,
+      )
 
-  pub third_holds : (ys' off' cover' left' right' : List ℕ) → Shows (third (get_or vs 0 0) (get_or vs 1 0) (get_or vs 2 0)) ys' off' cover' left' right'
-      → length ys' ≡ length ys → length off' ≡ length off → length cover' ≡ length cover → length left' ≡ length left → length right' ≡ length right
-      → Holds at ents vs 3 ys' off' cover' left' right'
-  third_holds ys' off' cover' left' right' S e1 e2 e3 e4 e5 =
-      record {
-        shows = subst⁻¹ (λ (s : Stage). Shows s ys' off' cover' left' right') (stage_third (held at ents) vs A.three) S;
-        room = record {
-          of_ys = omega (arith, W);
-          of_off = omega (arith, W);
-          of_cover = omega (arith, W);
-          of_left = omega (arith, W);
-          of_right = omega (arith, W);
-        };
-      }
+  pub third_holds : {ys off cover left right : List ℕ} → Shows (third (get_or vs 0 0) (get_or vs 1 0) (get_or vs 2 0)) ys off cover left right
+      → Room (length (held at ents)) ys off cover left right → Holds at ents vs 3 ys off cover left right
+  third_holds {ys} {off} {cover} {left} {right} S W =
+      record { shows = subst⁻¹ (λ (s : Stage). Shows s ys off cover left right) (stage_third (held at ents) vs A.three) S; room = W }

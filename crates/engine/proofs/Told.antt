@@ -81,11 +81,11 @@ some_right x (y ∷ l) u (inr i) = go (some_right y l u i)
     go (inr w) = inr (w.0, inr w.1)
 
 -- no stage is beyond the limit
-pub stage_within : (at ents vs : List ℕ) → Fitted at ents vs → (k : ℕ) → k ≤ length vs → k ≤ limit
-stage_within at ents vs A k i = omega (arith, fits_few (held at ents) A.vn vs A.plane A.fits, A.most)
+pub stage_within : {at ents vs : List ℕ} → Fitted at ents vs → {k : ℕ} → k ≤ length vs → k ≤ limit
+stage_within {at} {ents} {vs} A i = omega (arith, fits_few (held at ents) A.vn vs A.plane A.fits, A.most)
 
-module _ (at ents vs : List ℕ) (A : Fitted at ents vs) (k : ℕ) (h : 3 ≤ k) (i : k ≤ length vs)
-    (ys off cover left right xs : List ℕ) (D : Columned at ents vs k ys off cover left right xs) where
+module _ {at ents vs : List ℕ} (A : Fitted at ents vs) {k : ℕ} (h : 3 ≤ k) (i : k ≤ length vs)
+    {ys off cover left right xs : List ℕ} (D : Columned at ents vs k ys off cover left right xs) where
   abbrev G : List (List ℕ)
   G = held at ents
 
@@ -134,7 +134,7 @@ module _ (at ents vs : List ℕ) (A : Fitted at ents vs) (k : ℕ) (h : 3 ≤ k)
   other : (u : ℕ) → In u t.placed → ¬ (In u t.contour) → ¬ (get_or cover u 0 ≡ u)
   other u q n e =
       let w = in_take k vs u (subst (In u) (stage_placed G vs k h i) q) in
-      let l = covered_later at ents vs A k h i ys off cover left right D.holds xs D.roomy w.0 w.1
+      let l = covered_later A h i D.holds xs D.roomy w.0 w.1
       (λ c. n (subst (λ (a : ℕ). In a t.contour) w.3 c)) in
       let f : get_or vs l.0 0 ≡ get_or vs w.0 0 = l.3 ∙ ap t.cover w.3 ∙ sym (S.covers u q n) ∙ e ∙ sym w.3 in
       let d = A.fits.once l.0 w.0 (omega (arith, l.2)) w.2 f in
@@ -161,10 +161,10 @@ module _ (at ents vs : List ℕ) (A : Fitted at ents vs) (k : ℕ) (h : 3 ≤ k)
   ends_same : (u : ℕ) → In u t.placed → (fit_left G t.placed u ≡ fit_left G vs u) × (fit_right G t.placed u ≡ fit_right G vs u)
   ends_same u q = let e = stage_placed G vs k h i in rw e (front_same at ents vs A k i u (subst (In u) e q))
 
-  pub record_is : (rank : List ℕ) → RankedBelow (length G) vs rank → (u : ℕ) → u < length G
+  pub record_is : {rank : List ℕ} → RankedBelow (length G) vs rank → (u : ℕ) → u < length G
       → record_by G vs rank k xs ys cover left right u ≡ record_of G t u
   unfolding record_of
-  record_is rank R u l = go (in_dec u t.placed)
+  record_is {rank} R u l = go (in_dec u t.placed)
     where
       is_placed : mem t.placed u ≡ before rank (k + 1) u
       is_placed = ap (λ (r : List ℕ). mem r u) (stage_placed G vs k h i) ∙ placed_by (length G) vs rank R k i u l
@@ -185,8 +185,8 @@ module _ (at ents vs : List ℕ) (A : Fitted at ents vs) (k : ℕ) (h : 3 ≤ k)
       let b = A.fits.below (get_or vs j 0) (place_in vs j (omega arith)) in
       (omega (arith, D.roomy), omega (arith, D.holds.room.of_ys))
 
-  pub sheet_is : (B B' : List ℕ) → B' ≡ pairs xs ys (take k vs) ++ drop (2 * k) B → B' ≡ entries_of t ++ drop (2 * k) B
-  sheet_is B B' e = e ∙ ap (λ (l : List ℕ). l ++ drop (2 * k) B) entries_are
+  pub sheet_is : (B : List ℕ) {B' : List ℕ} → B' ≡ pairs xs ys (take k vs) ++ drop (2 * k) B → B' ≡ entries_of t ++ drop (2 * k) B
+  sheet_is B e = e ∙ ap (λ (l : List ℕ). l ++ drop (2 * k) B) entries_are
 
   pub record_ready : (u : ℕ) → u < length G → RoomFor u ys cover left right xs
   record_ready u l =

@@ -1,2 +1,3 @@
 pub mod Shows
 pub mod Recorded
+pub mod Lent

@@ -4,88 +4,54 @@
 mod records;
 
 ghost use Rattle.std.specs.Prelude.{◌≡◌, ◌++◌, ◌+◌, ◌*◌, ◌≤◌, ◌<◌, length, take, drop};
-ghost use Rattle.order.specs.Fitted.{Fitted, RunsHeld, Reachable};
-ghost use Rattle.rings.specs.Held.{held};
 ghost use Rattle.placing.specs.Stages.{third, stage};
 ghost use Rattle.placing.specs.Records.{entries_of};
 ghost use Rattle.contour.specs.Columns.{Readable, columns_of};
-ghost use Rattle.engine.specs.Shows.{Shows, Room, Corners, Holds, Columned};
+ghost use Rattle.contour.specs.Lent.{SameArrays};
+ghost use Rattle.engine.specs.Lent.{board, listed, HasStage, ShowsIn, RoomIn, CornersIn, HoldsIn, ColumnedIn};
 
+use contour::{Contour, put_entries};
+use order::Runs;
 pub use records::{ends_at, post_at};
 
 // From stage k to stage k + 1: the post in position k + 1 is placed.
-pub fn place_next(
-    at: &[u16],
-    ents: &[u16],
-    vs: &[u16],
-    begin: &[u16],
-    long: &[u16],
-    k: usize,
-    ys: &mut [u16],
-    off: &mut [u16],
-    cover: &mut [u16],
-    left: &mut [u16],
-    right: &mut [u16],
-)
-    requires { Fitted at.now ents.now vs.now × RunsHeld at.now ents.now vs.now begin.now long.now × (3 ≤ k) × (k < length vs.now)
-        × Holds at.now ents.now vs.now k ys.old off.old cover.old left.old right.old }
-    ensures { Holds at.now ents.now vs.now (k + 1)
-        ys.new off.new cover.new left.new right.new }
+pub fn place_next(runs: Runs<'_>, k: usize, contour: &mut Contour<'_>)
+    requires { (3 ≤ k) × (k < length (listed runs)) × HoldsIn runs k contour.old }
+    ensures same_arrays { SameArrays contour.old contour.new }
+    ensures holds { HoldsIn runs.entry (k + 1) contour.new }
 {
-    let first = order::of_run(at, ents, vs, begin, k + 1, 0);
-    let many = words::number(long[k]);
-    contour::place_over(vs[k], first, many, ys, off, cover, left, right);
+    let run = runs.runs[k];
+    let first = runs.plan.of_run(run, k + 1, 0);
+    contour.place_over(runs.plan.vs[k], first, usize::from(run.many));
 }
 
 // Stage 3, with the three corners where S4 puts them.
-fn start(
-    v1: u16,
-    v2: u16,
-    v3: u16,
-    ys: &mut [u16],
-    off: &mut [u16],
-    cover: &mut [u16],
-    left: &mut [u16],
-    right: &mut [u16],
-)
-    requires { Corners v1 v2 v3 ys.old off.old cover.old left.old right.old }
-    ensures { Shows (third v1 v2 v3) ys.new off.new cover.new left.new right.new }
+fn start(v1: u16, v2: u16, v3: u16, contour: &mut Contour<'_>)
+    requires { CornersIn v1 v2 v3 contour.old }
+    ensures same_arrays { SameArrays contour.old contour.new }
+    ensures shows { ShowsIn (third v1 v2 v3) contour.new }
 {
-    contour::put_corners(ys, v1, 0, v2, 0, v3, 1);
-    contour::put_corners(off, v1, 0, v2, 1, v3, 1);
-    contour::put_corners(cover, v1, v1, v2, v2, v3, v3);
-    contour::put_corners(left, v1, v1, v2, v3, v3, v1);
-    contour::put_corners(right, v1, v3, v2, v2, v3, v2);
+    put_entries(contour.ys, [(v1, 0), (v2, 0), (v3, 1)]);
+    put_entries(contour.off, [(v1, 0), (v2, 1), (v3, 1)]);
+    put_entries(contour.cover, [(v1, v1), (v2, v2), (v3, v3)]);
+    put_entries(contour.left, [(v1, v1), (v2, v3), (v3, v1)]);
+    put_entries(contour.right, [(v1, v3), (v2, v2), (v3, v2)]);
 }
 
 // Stage k: stage 3, and one post after the other.
-pub fn reach(
-    at: &[u16],
-    ents: &[u16],
-    vs: &[u16],
-    begin: &[u16],
-    long: &[u16],
-    k: usize,
-    ys: &mut [u16],
-    off: &mut [u16],
-    cover: &mut [u16],
-    left: &mut [u16],
-    right: &mut [u16],
-)
-    requires { Reachable at.now ents.now vs.now begin.now long.now k
-        × Room (length (held at.now ents.now)) ys.old off.old cover.old left.old right.old }
-    ensures { Holds at.now ents.now vs.now k
-        ys.new off.new cover.new left.new right.new }
+pub fn reach(runs: Runs<'_>, k: usize, contour: &mut Contour<'_>)
+    requires { HasStage runs k × RoomIn (length (board runs)) contour.old }
+    ensures same_arrays { SameArrays contour.old contour.new }
+    ensures holds { HoldsIn runs.entry k contour.new }
 {
-    start(vs[0], vs[1], vs[2], ys, off, cover, left, right);
-    let mut i = 3;
-    while i < k {
-        place_next(at, ents, vs, begin, long, i, ys, off, cover, left, right);
-        i += 1;
+    let vs = runs.plan.vs;
+    start(vs[0], vs[1], vs[2], contour);
+    for i in 3..k {
+        place_next(runs, i, contour);
     }
 }
 
-// The columns of the posts placed at stage k.
+// The columns of the posts placed at stage k. Slices: whoever reads may have no more of a contour to lend.
 pub fn columns(vs: &[u16], off: &[u16], cover: &[u16], right: &[u16], xs: &mut [u16], k: usize)
     requires { Readable vs.now off.now cover.now right.now xs.old k }
     ensures { xs.new ≡ columns_of vs.now off.now cover.now right.now xs.old k }
@@ -95,54 +61,32 @@ pub fn columns(vs: &[u16], off: &[u16], cover: &[u16], right: &[u16], xs: &mut [
 }
 
 // Stage k with the columns of its posts.
-pub fn draw(
-    at: &[u16],
-    ents: &[u16],
-    vs: &[u16],
-    begin: &[u16],
-    long: &[u16],
-    k: usize,
-    ys: &mut [u16],
-    off: &mut [u16],
-    cover: &mut [u16],
-    left: &mut [u16],
-    right: &mut [u16],
-    xs: &mut [u16],
-)
-    requires { Reachable at.now ents.now vs.now begin.now long.now k
-        × Room (length (held at.now ents.now)) ys.old off.old cover.old left.old right.old
-        × (length (held at.now ents.now) ≤ length xs.old) }
-    ensures { Columned at.now ents.now vs.now k
-        ys.new off.new cover.new left.new right.new xs.new }
+pub fn draw(runs: Runs<'_>, k: usize, contour: &mut Contour<'_>, xs: &mut [u16])
+    requires { HasStage runs k × RoomIn (length (board runs)) contour.old × (length (board runs) ≤ length xs.old) }
+    ensures same_arrays { SameArrays contour.old contour.new }
+    ensures columned { ColumnedIn runs.entry k contour.new xs.new }
 {
-    reach(at, ents, vs, begin, long, k, ys, off, cover, left, right);
-    columns(vs, off, cover, right, xs, k);
+    reach(runs, k, contour);
+    // three of the arrays are lent at once
+    let off = &mut *contour.off;
+    let cover = &mut *contour.cover;
+    let right = &mut *contour.right;
+    columns(runs.plan.vs, off, cover, right, xs, k);
 }
 
 // The sheet of stage k: its entries, and the buffer beyond as it was.
 pub fn sheet_at(
-    at: &[u16],
-    ents: &[u16],
-    vs: &[u16],
-    begin: &[u16],
-    long: &[u16],
+    runs: Runs<'_>,
     k: usize,
-    ys: &mut [u16],
-    off: &mut [u16],
-    cover: &mut [u16],
-    left: &mut [u16],
-    right: &mut [u16],
+    contour: &mut Contour<'_>,
     xs: &mut [u16],
     buffer: &mut [u16],
 )
-    requires { Reachable at.now ents.now vs.now begin.now long.now k
-        × Room (length (held at.now ents.now)) ys.old off.old cover.old left.old right.old
-        × (length (held at.now ents.now) ≤ length xs.old) × (2 * k ≤ length buffer.old) }
-    ensures { buffer.new ≡ entries_of (stage (held at.now ents.now) (take k vs.now))
-        ++ drop (2 * k) buffer.old }
+    requires { HasStage runs k × RoomIn (length (board runs)) contour.old × (length (board runs) ≤ length xs.old)
+        × (2 * k ≤ length buffer.old) }
+    ensures same_arrays { SameArrays contour.old contour.new }
+    ensures sheet { buffer.new ≡ entries_of (stage (board runs.entry) (take k (listed runs.entry))) ++ drop (2 * k) buffer.old }
 {
-    draw(
-        at, ents, vs, begin, long, k, ys, off, cover, left, right, xs,
-    );
-    placing::write_sheet(vs, k, xs, ys, buffer);
+    draw(runs, k, contour, xs);
+    placing::write_sheet(runs.plan.vs, k, xs, contour.ys, buffer);
 }

@@ -1,15 +1,16 @@
 // What is told of a stage: the record of a post, and the ends of runs, from what check kept.
 ghost use Rattle.std.specs.Prelude.{◌≡◌, ◌++◌, ◌*◌, ◌≤◌, ◌<◌, length, take, drop};
 ghost use Rattle.words.specs.Positions.{post};
-ghost use Rattle.order.specs.Fitted.{Fitted, RunsHeld, Reachable};
 ghost use Rattle.order.specs.Ranked.{RankedBelow};
-ghost use Rattle.rings.specs.Held.{held};
 ghost use Rattle.placing.specs.Stages.{stage};
 ghost use Rattle.placing.specs.Records.{fit_left, fit_right, record_of, ends_of};
+ghost use Rattle.contour.specs.Lent.{SameArrays};
 ghost use Rattle.engine.specs.Recorded.{standing_by, record_by};
-ghost use Rattle.engine.specs.Shows.{Room, RoomFor};
+ghost use Rattle.engine.specs.Lent.{board, listed, HasStage, RoomIn, RoomForIn};
 
 use crate::draw;
+use contour::Contour;
+use order::Runs;
 use placing::{Record, Standing};
 
 // The ends of a run, by name.
@@ -20,55 +21,48 @@ struct Ends {
 }
 
 // The ends of the run of the post in position j; the posts in positions 1 and 2 have none, and count as their own.
-fn ends_of(at: &[u16], ents: &[u16], vs: &[u16], begin: &[u16], long: &[u16], j: usize) -> Ends
-    requires { Fitted at.now ents.now vs.now × RunsHeld at.now ents.now vs.now begin.now long.now × (1 ≤ j) × (j ≤ length vs.now) }
-    ensures { (result.left ≡ fit_left (held at.now ents.now) vs.now (post vs.now j))
-        × (result.right ≡ fit_right (held at.now ents.now) vs.now (post vs.now j)) }
+fn ends_of(runs: Runs<'_>, j: usize) -> Ends
+    requires { (1 ≤ j) × (j ≤ length (listed runs)) }
+    ensures { (result.left ≡ fit_left (board runs.entry) (listed runs.entry) (post (listed runs.entry) j))
+        × (result.right ≡ fit_right (board runs.entry) (listed runs.entry) (post (listed runs.entry) j)) }
 {
     if j < 3 {
-        let u = vs[j - 1];
+        let u = runs.plan.vs[j - 1];
         return Ends { left: u, right: u };
     }
-    let many = words::number(long[j - 1]);
+    let run = runs.runs[j - 1];
     Ends {
-        left: order::of_run(at, ents, vs, begin, j, 0),
-        right: order::of_run(at, ents, vs, begin, j, many - 1),
+        left: runs.plan.of_run(run, j, 0),
+        right: runs.plan.of_run(run, j, usize::from(run.many) - 1),
     }
 }
 
 // How a placed post stands, from the arrays of its stage.
-fn standing_at(cover: &[u16], left: &[u16], right: &[u16], u: u16) -> Standing
-    requires { (u < length cover.now) × (u < length left.now) × (u < length right.now) }
-    ensures { result ≡ standing_by cover.now left.now right.now u }
+fn standing_at(contour: &Contour<'_>, u: u16) -> Standing
+    requires { (u < length contour.now.cover.now) × (u < length contour.now.left.now) × (u < length contour.now.right.now) }
+    ensures { result ≡ standing_by contour.now.cover.now contour.now.left.now contour.now.right.now u }
 {
-    let i = words::number(u);
-    let c = cover[i];
+    let i = usize::from(u);
+    let c = contour.cover[i];
     if c == u {
-        return Standing::OnContour(left[i], right[i]);
+        return Standing::OnContour(contour.left[i], contour.right[i]);
     }
     Standing::Covered(c)
 }
 
 // The record of post u, from the arrays of stage k.
 fn record_at(
-    at: &[u16],
-    ents: &[u16],
-    vs: &[u16],
+    runs: Runs<'_>,
     rank: &[u16],
-    begin: &[u16],
-    long: &[u16],
     k: usize,
     u: u16,
-    ys: &[u16],
-    cover: &[u16],
-    left: &[u16],
-    right: &[u16],
+    contour: &Contour<'_>,
     xs: &[u16],
 ) -> Record
-    requires { Reachable at.now ents.now vs.now begin.now long.now k × RankedBelow (length (held at.now ents.now)) vs.now rank.now
-        × (u < length (held at.now ents.now)) × RoomFor u ys.now cover.now left.now right.now xs.now }
-    ensures { result ≡ record_by (held at.now ents.now) vs.now rank.now k
-        xs.now ys.now cover.now left.now right.now u }
+    requires { HasStage runs k × RankedBelow (length (board runs)) (listed runs) rank.now × (u < length (board runs))
+        × RoomForIn u contour.now xs.now }
+    ensures { result ≡ record_by (board runs.entry) (listed runs.entry) rank.now k
+        xs.now contour.now.ys.now contour.now.cover.now contour.now.left.now contour.now.right.now u }
 {
     if !order::is_before(rank, u, k + 1) {
         return Record {
@@ -79,12 +73,12 @@ fn record_at(
             rightmost: u,
         };
     }
-    let i = words::number(u);
-    let ends = ends_of(at, ents, vs, begin, long, words::number(rank[i]));
+    let i = usize::from(u);
+    let ends = ends_of(runs, usize::from(rank[i]));
     Record {
         x: xs[i],
-        y: ys[i],
-        standing: standing_at(cover, left, right, u),
+        y: contour.ys[i],
+        standing: standing_at(contour, u),
         leftmost: ends.left,
         rightmost: ends.right,
     }
@@ -92,55 +86,30 @@ fn record_at(
 
 // The record of post u at stage k.
 pub fn post_at(
-    at: &[u16],
-    ents: &[u16],
-    vs: &[u16],
+    runs: Runs<'_>,
     rank: &[u16],
-    begin: &[u16],
-    long: &[u16],
     k: usize,
     u: u16,
-    ys: &mut [u16],
-    off: &mut [u16],
-    cover: &mut [u16],
-    left: &mut [u16],
-    right: &mut [u16],
+    contour: &mut Contour<'_>,
     xs: &mut [u16],
 ) -> Record
-    requires { Reachable at.now ents.now vs.now begin.now long.now k
-        × Room (length (held at.now ents.now)) ys.old off.old cover.old left.old right.old
-        × (length (held at.now ents.now) ≤ length xs.old) × (u < length (held at.now ents.now))
-        × RankedBelow (length (held at.now ents.now)) vs.now rank.now }
-    ensures { result ≡ record_of (held at.now ents.now)
-        (stage (held at.now ents.now) (take k vs.now)) u }
+    requires { HasStage runs k × RoomIn (length (board runs)) contour.old × (length (board runs) ≤ length xs.old)
+        × (u < length (board runs)) × RankedBelow (length (board runs)) (listed runs) rank.now }
+    ensures same_arrays { SameArrays contour.old contour.new }
+    ensures record { result ≡ record_of (board runs.entry) (stage (board runs.entry) (take k (listed runs.entry))) u }
 {
-    draw(
-        at, ents, vs, begin, long, k, ys, off, cover, left, right, xs,
-    );
-    record_at(
-        at, ents, vs, rank, begin, long, k, u, ys, cover, left, right, xs,
-    )
+    draw(runs, k, contour, xs);
+    record_at(runs, rank, k, u, contour, xs)
 }
 
 // The ends of the runs of the posts placed at stage k, two entries for each in its turn; the buffer beyond is as it was.
-pub fn ends_at(
-    at: &[u16],
-    ents: &[u16],
-    vs: &[u16],
-    begin: &[u16],
-    long: &[u16],
-    k: usize,
-    buffer: &mut [u16],
-)
-    requires { Reachable at.now ents.now vs.now begin.now long.now k × (2 * k ≤ length buffer.old) }
-    ensures { buffer.new ≡ ends_of (held at.now ents.now) (take k vs.now)
-        ++ drop (2 * k) buffer.old }
+pub fn ends_at(runs: Runs<'_>, k: usize, buffer: &mut [u16])
+    requires { HasStage runs k × (2 * k ≤ length buffer.old) }
+    ensures { buffer.new ≡ ends_of (board runs.entry) (take k (listed runs.entry)) ++ drop (2 * k) buffer.old }
 {
-    let mut j = 0;
-    while j < k {
-        let ends = ends_of(at, ents, vs, begin, long, j + 1);
+    for j in 0..k {
+        let ends = ends_of(runs, j + 1);
         buffer[2 * j] = ends.left;
         buffer[2 * j + 1] = ends.right;
-        j += 1;
     }
 }

@@ -1,19 +1,18 @@
-use native.Mathlib.Omega.{arith}
-use Prim.Native.Nat.{ℕ}
+use Rattle.std.proofs.Common.{ℕ, arith}
 use Rattle.engine.proofs.Told.{stage_within, names_fit, sheet_is}
+use Rattle.engine.proofs.Known.{once, with_plan}
 use Rattle.engine.proofs.sheet_at.Goals as goal
 
 pub write_sheet-requires : goal.write_sheet-requires
 write_sheet-requires c =
     let pre = c.requires in
-    let stage = pre.0 in (
-      omega (arith, stage.most),
-      omega (arith, stage_within _ _ _ stage.fitted _ stage.most),
+    with_plan c.args.runs (hlevel once) (λ A. (
+      omega (arith, pre.0.1),
+      omega (arith, stage_within A pre.0.1),
       omega (arith, pre.3),
-      λ (j : ℕ) l. names_fit _ _ _ stage.fitted _ stage.least stage.most _ _ _ _ _ _ c.draw.ensures j (omega (arith, l)),
-    )
+      λ (j : ℕ) l. names_fit A pre.0.0 pre.0.1 c.draw.ensures.columned j (omega (arith, l)),
+    ))
 
-pub returns : goal.returns
-returns c =
-    let stage = c.requires.0 in
-    sheet_is _ _ _ stage.fitted _ stage.least stage.most _ _ _ _ _ _ c.draw.ensures _ _ c.write_sheet.ensures
+pub returns-clause-sheet : goal.returns-clause-sheet
+returns-clause-sheet c =
+    with_plan c.args.runs (hlevel once) (λ A. sheet_is A c.requires.0.0 c.requires.0.1 c.draw.ensures.columned _ c.write_sheet.ensures)
