@@ -13,7 +13,7 @@ use Rattle.block.specs.Block.{posts, order, lists}
 use Rattle.rings.proofs.Says.{entry_returned}
 use Rattle.order.specs.Order.{from, run}
 use Rattle.order.specs.Ranked.{fit_of}
-use Rattle.order.specs.declared.Fit.TheVariants.{Good}
+use Rattle.std.proofs.Common.{Ok}
 use Rattle.order.proofs.Tests.{lead_placed}
 use Rattle.order.proofs.Growth.{run_near}
 use Rattle.order.proofs.Fitting.{fits_faces}
@@ -40,7 +40,7 @@ module _ (s : List ℕ) (S : Passing s) (j : ℕ) (h : 3 ≤ j) (i : j ≤ posts
   within : j ≤ length (order s)
   within = omega (arith, order_length s)
 
-  is_good_lem : fit_of (lists s) (earlier (order s) j) (post (order s) j) ≡ Good (begin_at s j) (length (run_at s j))
+  is_good_lem : fit_of (lists s) (earlier (order s) j) (post (order s) j) ≡ Ok (record { begin = begin_at s j; many = length (run_at s j) })
   is_good_lem = rw ((fits s S).two j h within, (fits s S).run j h within) refl
 
   run_placed : (a : ℕ) → In a (run_at s j) → In a (earlier (order s) j)

@@ -5,165 +5,158 @@ use mathlib.Core.List.{List, [], ◌++◌}
 use native.Mathlib.Omega.{arith}
 use lib.ListN.{length, take, drop}
 use borrow.Author.Tests.{lt-ltb, le-ltb, le-leb, lt-leb, ltb-false, leb-false}
+use Rattle.std.proofs.Common.{Result, Ok, Err}
 use Rattle.block.specs.Layout.{limit, entries}
 use Rattle.block.specs.Block.{posts, order, lists}
 use Rattle.rings.specs.Held.{held}
 use Rattle.words.specs.Positions.{post}
 use Rattle.order.specs.Ranked.{RankedBelow, Ranked}
-use Rattle.order.specs.Fitted.{Fitted, RunsHeld, Reachable}
+use Rattle.order.specs.Fitted.{Fitted, RunsHeld}
+use Rattle.order.specs.declared.Run.{Run}
 use Rattle.order.proofs.Sound.{Passes}
 use Rattle.order.proofs.Fitting.{passes_plane, passes_fits}
 use Rattle.placing.specs.Stages.{stage}
-use Rattle.placing.specs.Records.{record_of, entries_of, ends_of}
+use Rattle.placing.specs.Records.{record_of}
 use Rattle.placing.specs.declared.Record.{Record}
 use Rattle.lamp.specs.Refusals.{number_of, place_of}
 use Rattle.lamp.specs.Lamp.{Row, check_rows, stage_row, room_row, name_row, sheet_rows, post_rows, stage_rows, room_rows, name_rows}
-use Rattle.lamp.specs.Given.{Reply, accepted, reply_of, given, check_reply, NoneApplies}
+use Rattle.lamp.specs.Given.{Reply, accepted, refused, reply_of, given, nothing, tried, check_reply, NoneApplies}
 use Rattle.lamp.specs.Loaded.{WideOrder, Trimmed, Checked}
 use Rattle.lamp.specs.declared.Refusal.{Refusal}
-use Rattle.lamp.specs.declared.Refusal.TheVariants.{Room, Name}
-use Rattle.lamp.specs.declared.Answer.{Answer}
-use Rattle.lamp.specs.declared.Answer.TheVariants.{Refused}
-use Rattle.lamp.proofs.Given.{given_first, given_past, given_none, refused_any, none_both}
-use Rattle.lamp.proofs.Tried.{stops}
-use Rattle.lamp.proofs.Loads.{trimmed}
-use Rattle.lamp.proofs.Accepts.{none_passes, accepted_none, stage_range}
-use Rattle.unit.specs.declared.Ask.{Ask}
-use Rattle.unit.specs.Replies.{stage_at, sheet_reply, buffer_for, buffer_after, ends_after, post_reply}
-use Rattle.unit.specs.Asked.{further_rows, Within, Tells, Serves}
+use Rattle.lamp.specs.declared.Refusal.TheVariants.{Stage, Room, Name}
+use Rattle.lamp.proofs.Given.{given_first, given_none, given_past, given_refused, refused_any, none_both}
+use Rattle.lamp.proofs.Tried.{counts, none_applied, stops_last}
+use Rattle.lamp.proofs.Loads.{trimmed, order_length}
+use Rattle.lamp.proofs.Accepts.{lists_count, none_passes, accepted_none, stage_range}
+use Rattle.unit.specs.Replies.{stage_at, sheet_reply, buffer_for, post_reply}
 
 -- ---- the rows after check's, by what the code compared
 
 module _ (s : List ℕ) (k : ℕ) where
-  module _ (rest : List Row) where
-    pub stage_low : k < 3 → reply_of (Refused Refusal.Stage) ≡ given (stage_rows k ++ rest) s posts
-    stage_low h = sym (given_first s posts [] (stage_row k) rest tt (rw (lt-ltb k 3 h) refl))
+  pub stage_low : k < 3 → reply_of (Err Stage) ≡ tried (stage_rows k) s
+  stage_low h = sym (given_first s nothing [] (stage_row k) [] tt (rw (lt-ltb k 3 h) refl))
 
-    pub stage_high : 3 ≤ k → posts s < k → reply_of (Refused Refusal.Stage) ≡ given (stage_rows k ++ rest) s posts
-    stage_high least h = sym (given_first s posts [] (stage_row k) rest tt (rw (le-ltb k 3 least, lt-ltb (posts s) k h) refl))
+  pub stage_high : 3 ≤ k → posts s < k → reply_of (Err Stage) ≡ tried (stage_rows k) s
+  stage_high least h = sym (given_first s nothing [] (stage_row k) [] tt (rw (le-ltb k 3 least, lt-ltb (posts s) k h) refl))
 
-    pub stage_past : 3 ≤ k → k ≤ posts s → given rest s posts ≡ given (stage_rows k ++ rest) s posts
-    stage_past least most =
-        sym (given_past s posts (stage_rows k) rest (rw (le-ltb k 3 least, le-ltb (posts s) k most) refl, tt))
+  pub stage_passes : 3 ≤ k → k ≤ posts s → NoneApplies (stage_rows k) s
+  stage_passes least most = (rw (le-ltb k 3 least, le-ltb (posts s) k most) refl, tt)
 
-  pub no_room : (room : ℕ) → room < 2 * k → reply_of (Refused Room) ≡ given (room_rows k room) s posts
-  no_room room h = sym (given_first s posts [] (room_row k room) [] tt (lt-ltb room (2 * k) h))
+  -- where none applies, the stage fits
+  pub stage_fits : (rest : List Row) → NoneApplies (stage_rows k ++ rest) s → (3 ≤ k) × (k ≤ posts s)
+  stage_fits rest h = stage_range s k (h.0, tt)
+
+  pub no_room : (room : ℕ) → room < 2 * k → given (room_rows k room) s (λ z. 2 * k) ≡ refused (number_of Room) (place_of Room)
+  no_room room h = given_first s (λ z. 2 * k) [] (room_row k room) [] tt (lt-ltb room (2 * k) h)
 
   pub room_passes : (room : ℕ) → 2 * k ≤ room → NoneApplies (room_rows k room) s
   room_passes room h = (le-ltb room (2 * k) h, tt)
 
-pub no_name : (s : List ℕ) (u : ℕ) → posts s ≤ u → reply_of (Refused Name) ≡ given (name_rows u) s posts
-no_name s u h = sym (given_first s posts [] (name_row u) [] tt (le-leb (posts s) u h))
+  pub room_fits : (room : ℕ) → NoneApplies (stage_rows k ++ room_rows k room) s → 2 * k ≤ room
+  room_fits room h = ltb-false room (2 * k) (search)
 
-pub name_passes : (s : List ℕ) (u : ℕ) → u < posts s → NoneApplies (name_rows u) s
-name_passes s u h = (lt-leb (posts s) u h, tt)
+  pub no_name : (u : ℕ) → posts s ≤ u → given (name_rows u) s (λ z. u) ≡ refused (number_of Name) (place_of Name)
+  no_name u h = given_first s (λ z. u) [] (name_row u) [] tt (le-leb (posts s) u h)
 
--- where none applies, the stage and what is asked of it fit
-pub asked_stage : (ask : Ask) (s : List ℕ) (k room : ℕ) → NoneApplies (further_rows ask k room) s → (3 ≤ k) × (k ≤ posts s)
-asked_stage ask s k room h = stage_range s k (h.0, tt)
+  pub name_passes : (u : ℕ) → u < posts s → NoneApplies (name_rows u) s
+  name_passes u h = (lt-leb (posts s) u h, tt)
 
-pub within : (ask : Ask) (s : List ℕ) (k room n : ℕ) → n ≡ posts s → NoneApplies (further_rows ask k room) s → Within ask k n room
-within Ask.Sheet s k room n is h = ltb-false room (2 * k) (search)
-within Ask.Ends s k room n is h = ltb-false room (2 * k) (search)
-within (Ask.Post u) s k room n is h = let low = leb-false (posts s) u (search) in omega (arith, low, is)
+  pub name_fits : (u : ℕ) → NoneApplies (stage_rows k ++ name_rows u) s → u < posts s
+  name_fits u h = leb-false (posts s) u (search)
 
--- ---- the replies
+-- ---- a service: check's rows, and its own
 
-module _ (s : List ℕ) (k : ℕ) (b : List ℕ) where
-  -- sheet's and post's tables are check's with the rows that follow; ends' is sheet's. w is what an acceptance writes
-  room_refused : (w : List ℕ) (number place : ℕ) → given (check_rows s ++ further_rows Ask.Sheet k (length b)) s posts ≡ Reply.refused number place
-      → (Reply.refused number place ≡ sheet_reply s k b) × (b ≡ buffer_for (sheet_reply s k b) w b)
-  unfolding sheet_reply sheet_rows buffer_for
-  room_refused w number place e =
-      let q = refused_any s posts (λ z. 2 * k) (sheet_rows s k (length b)) number place e in
-      (sym q, sym (ap (λ (r : Reply ℕ). buffer_for r w b) q))
+module _ {A : Type 0} (s : List ℕ) (own : List Row) (answer : List ℕ → A) where
+  -- check refuses
+  pub check_refuses : (number place : ℕ) → check_reply s ≡ refused number place → refused number place ≡ given (check_rows s ++ own) s answer
+  unfolding check_reply
+  check_refuses number place e = sym (given_refused s answer (check_rows s) own number place (refused_any s posts answer (check_rows s) number place e))
 
-  post_refused : (u number place : ℕ) → given (check_rows s ++ further_rows (Ask.Post u) k (length b)) s posts ≡ Reply.refused number place
-      → Reply.refused number place ≡ post_reply s k u
-  unfolding post_reply post_rows
-  post_refused u number place e = sym (refused_any s posts (λ z. record_of (lists z) (stage_at k z) u) (post_rows s k u) number place e)
+  -- check accepts, and its own rows are tried
+  module _ {B : Type 0} (n : ℕ) (e : check_reply s ≡ accepted n) (mine : List ℕ → B) (q : Result B Refusal) (eq : reply_of q ≡ given own s mine) where
+    pub own_refuses : (f : Refusal) → q ≡ Err f → refused (number_of f) (place_of f) ≡ given (check_rows s ++ own) s answer
+    own_refuses f is = stops_last s mine own q eq answer f is ∙ sym (given_past s answer (check_rows s) own (accepted_none s n e))
 
-  refused_serves : (ask : Ask) (f : Refusal) (w : Record) → reply_of (Refused f) ≡ given (check_rows s ++ further_rows ask k (length b)) s posts
-      → Serves ask k s b (record { answer = Refused f; found = w }) b
-  unfolding buffer_after ends_after
-  refused_serves Ask.Sheet f w e = room_refused (entries_of (stage_at k s)) (number_of f) (place_of f) (sym e)
-  refused_serves Ask.Ends f w e = room_refused (ends_of (lists s) (take k (order s))) (number_of f) (place_of f) (sym e)
-  refused_serves (Ask.Post u) f w e = post_refused u (number_of f) (place_of f) (sym e)
+    pub accepts : (v : B) → q ≡ Ok v → accepted (answer s) ≡ given (check_rows s ++ own) s answer
+    accepts v is =
+        sym (given_none s answer (check_rows s ++ own) (none_both (check_rows s) own s (accepted_none s n e) (none_applied s mine own q eq v is)))
 
-  module _ (ask : Ask) (a : Answer) (f : Refusal) (told : a ≡ Refused f) (w : Record) where
-    -- check refuses
-    pub check_refuses : reply_of a ≡ check_reply s → Serves ask k s b (record { answer = a; found = w }) b
-    unfolding check_reply
-    check_refuses e =
-        let q = sym (ap reply_of told) ∙ stops s (check_rows s) a e (further_rows ask k (length b)) f told in
-        subst⁻¹ (λ (z : Answer). Serves ask k s b (record { answer = z; found = w }) b) told (refused_serves ask f w q)
+-- ---- the replies of sheet and ends are one; w is what an acceptance writes
 
-    -- check accepts, and a row after it applies
-    pub row_refuses : (n : ℕ) → check_reply s ≡ accepted n → reply_of a ≡ given (further_rows ask k (length b)) s posts
-        → Serves ask k s b (record { answer = a; found = w }) b
-    row_refuses n c e =
-        let past = given_past s posts (check_rows s) (further_rows ask k (length b)) (accepted_none s n c) in
-        let q = sym (ap reply_of told) ∙ e ∙ sym past in
-        subst⁻¹ (λ (z : Answer). Serves ask k s b (record { answer = z; found = w }) b) told (refused_serves ask f w q)
+module _ (s : List ℕ) (k : ℕ) (b w : List ℕ) where
+  own : List Row
+  own = stage_rows k ++ room_rows k (length b)
 
-  -- none applies, and the stage is told
-  room_fine : (w : List ℕ) → NoneApplies (check_rows s ++ further_rows Ask.Sheet k (length b)) s
-      → (accepted (2 * k) ≡ sheet_reply s k b) × (w ++ drop (2 * k) b ≡ buffer_for (sheet_reply s k b) w b)
-  unfolding sheet_reply sheet_rows buffer_for
-  room_fine w none =
-      let q = given_none s (λ z. 2 * k) (sheet_rows s k (length b)) none in
-      (sym q, sym (ap (λ (r : Reply ℕ). buffer_for r w b) q))
+  refuses : (number place : ℕ) → refused number place ≡ given (check_rows s ++ own) s (λ z. 2 * k)
+      → (refused number place ≡ sheet_reply s k b) × (b ≡ buffer_for (sheet_reply s k b) w b)
+  unfolding sheet_reply sheet_rows buffer_for own
+  refuses number place e = (e, ap (λ (r : Reply ℕ). buffer_for r w b) e)
 
-  post_fine : (u : ℕ) → NoneApplies (check_rows s ++ further_rows (Ask.Post u) k (length b)) s
-      → accepted (record_of (lists s) (stage_at k s) u) ≡ post_reply s k u
-  unfolding post_reply post_rows
-  post_fine u none = sym (given_none s (λ z. record_of (lists z) (stage_at k z) u) (post_rows s k u) none)
+  pub sheet_refused : (number place : ℕ) → check_reply s ≡ refused number place
+      → (refused number place ≡ sheet_reply s k b) × (b ≡ buffer_for (sheet_reply s k b) w b)
+  sheet_refused number place e = refuses number place (check_refuses s own (λ z. 2 * k) number place e)
 
-  tells_serves : (ask : Ask) (w : Record) (after : List ℕ) → NoneApplies (check_rows s ++ further_rows ask k (length b)) s
-      → Tells ask k (lists s) (take k (order s)) b w after → Serves ask k s b (record { answer = Answer.Accepted (2 * k); found = w }) after
-  unfolding stage_at buffer_after ends_after
-  tells_serves Ask.Sheet w after none t = let e = room_fine (entries_of (stage_at k s)) none in (e.0, t ∙ e.1)
-  tells_serves Ask.Ends w after none t = let e = room_fine (ends_of (lists s) (take k (order s))) none in (e.0, t ∙ e.1)
-  tells_serves (Ask.Post u) w after none t = ap accepted t ∙ post_fine u none
+  -- an accepted block, and what its stage and the room gave; t is the block as it is held
+  module _ (t : List ℕ) (same : t ≡ s) (n : ℕ) (e : check_reply s ≡ accepted n) (q : Result ℕ Refusal)
+      (eq : reply_of q ≡ given (stage_rows k ++ room_rows k (length b)) t (λ z. 2 * k)) where
+    eq_s : reply_of q ≡ given own s (λ z. 2 * k)
+    unfolding own
+    eq_s = eq ∙ ap (λ (z : List ℕ). given own z (λ x. 2 * k)) same
 
-  pub serves : (ask : Ask) (n : ℕ) (G : List (List ℕ)) (placed : List ℕ) (w : Record) (after : List ℕ) → check_reply s ≡ accepted n
-      → NoneApplies (further_rows ask k (length b)) s → (G ≡ lists s) × (placed ≡ take k (order s)) → Tells ask k G placed b w after
-      → Serves ask k s b (record { answer = Answer.Accepted (2 * k); found = w }) after
-  serves ask n G placed w after c none is told =
-      let all = none_both (check_rows s) (further_rows ask k (length b)) s (accepted_none s n c) none in
-      tells_serves ask w after all (rw (is.0, is.1) at told)
+    pub room_refused : (f : Refusal) → q ≡ Err f
+        → (refused (number_of f) (place_of f) ≡ sheet_reply s k b) × (b ≡ buffer_for (sheet_reply s k b) w b)
+    room_refused f is = refuses (number_of f) (place_of f) (own_refuses s own (λ z. 2 * k) n e (λ z. 2 * k) q eq_s f is)
 
--- ---- by what is asked
+    module _ (v : ℕ) (is : q ≡ Ok v) where
+      none : NoneApplies own s
+      none = none_applied s (λ z. 2 * k) own q eq_s v is
 
-module _ (ask : Ask) (k : ℕ) where
-  module _ (e : ask ≡ Ask.Sheet) where
-    pub within_sheet : (n room : ℕ) → Within ask k n room → 2 * k ≤ room
-    within_sheet n room h = subst (λ (a : Ask). Within a k n room) e h
+      pub sheet_written : (accepted v ≡ sheet_reply s k b) × (w ++ drop (2 * k) b ≡ buffer_for (sheet_reply s k b) w b)
+      unfolding sheet_reply sheet_rows buffer_for own
+      sheet_written =
+          let done = accepts s own (λ z. 2 * k) n e (λ z. 2 * k) q eq_s v is in
+          (ap accepted (counts s (λ z. 2 * k) own q eq_s v is) ∙ done, ap (λ (r : Reply ℕ). buffer_for r w b) done)
 
-    pub tells_sheet : (G : List (List ℕ)) (placed b : List ℕ) (r : Record) (after : List ℕ) → after ≡ entries_of (stage G placed) ++ drop (2 * k) b
-        → Tells ask k G placed b r after
-    tells_sheet G placed b r after h = subst⁻¹ (λ (a : Ask). Tells a k G placed b r after) e h
+      pub sheet_fits : ((3 ≤ k) × (k ≤ posts s)) × (2 * k ≤ length b)
+      unfolding own
+      sheet_fits = (stage_fits s k (room_rows k (length b)) none, room_fits s k (length b) none)
 
-  module _ (e : ask ≡ Ask.Ends) where
-    pub within_ends : (n room : ℕ) → Within ask k n room → 2 * k ≤ room
-    within_ends n room h = subst (λ (a : Ask). Within a k n room) e h
+-- ---- post's reply
 
-    pub tells_ends : (G : List (List ℕ)) (placed b : List ℕ) (r : Record) (after : List ℕ) → after ≡ ends_of G placed ++ drop (2 * k) b
-        → Tells ask k G placed b r after
-    tells_ends G placed b r after h = subst⁻¹ (λ (a : Ask). Tells a k G placed b r after) e h
+module _ (s : List ℕ) (k u : ℕ) where
+  record_at : List ℕ → Record
+  record_at z = record_of (lists z) (stage_at k z) u
 
-  module _ (u : ℕ) (e : ask ≡ Ask.Post u) where
-    pub within_post : (n room : ℕ) → Within ask k n room → u < n
-    within_post n room h = subst (λ (a : Ask). Within a k n room) e h
+  pub post_refused : (number place : ℕ) → check_reply s ≡ refused number place → refused number place ≡ post_reply s k u
+  unfolding post_reply post_rows record_at
+  post_refused number place e = check_refuses s (stage_rows k ++ name_rows u) record_at number place e
 
-    pub tells_post : (G : List (List ℕ)) (placed b : List ℕ) (r : Record) (after : List ℕ) → r ≡ record_of G (stage G placed) u
-        → Tells ask k G placed b r after
-    tells_post G placed b r after h = subst⁻¹ (λ (a : Ask). Tells a k G placed b r after) e h
+  module _ (t : List ℕ) (same : t ≡ s) (n : ℕ) (e : check_reply s ≡ accepted n) (q : Result ℕ Refusal)
+      (eq : reply_of q ≡ given (stage_rows k ++ name_rows u) t (λ z. u)) where
+    eq_u : reply_of q ≡ given (stage_rows k ++ name_rows u) s (λ z. u)
+    eq_u = eq ∙ ap (λ (z : List ℕ). given (stage_rows k ++ name_rows u) z (λ x. u)) same
+
+    pub name_refused : (f : Refusal) → q ≡ Err f → refused (number_of f) (place_of f) ≡ post_reply s k u
+    unfolding post_reply post_rows record_at
+    name_refused f is = own_refuses s (stage_rows k ++ name_rows u) record_at n e (λ z. u) q eq_u f is
+
+    module _ (v : ℕ) (is : q ≡ Ok v) where
+      pub name_is : v ≡ u
+      name_is = counts s (λ z. u) (stage_rows k ++ name_rows u) q eq_u v is
+
+      pub post_told : (r : Record) → r ≡ record_of (lists s) (stage_at k s) u → accepted r ≡ post_reply s k u
+      unfolding post_reply post_rows record_at
+      post_told r h = ap accepted h ∙ accepts s (stage_rows k ++ name_rows u) record_at n e (λ z. u) q eq_u v is
+
+      pub post_fits : ((3 ≤ k) × (k ≤ posts s)) × (u < posts s)
+      post_fits =
+          let none = none_applied s (λ z. u) (stage_rows k ++ name_rows u) q eq_u v is in
+          (stage_fits s k (name_rows u) none, name_fits s k u none)
 
 -- ---- what the engine asks, and what it gives
 
-module _ (s : List ℕ) (n : ℕ) (e : check_reply s ≡ accepted n) (vs at ents rank begin long : List ℕ) (R : Checked s n vs at ents rank begin long)
-    (room : limit < length at) (W : WideOrder rank begin long) (m : ℕ) (em : m ≡ entries n) where
+module _ (s : List ℕ) (n : ℕ) (e : check_reply s ≡ accepted n) (vs at ents rank : List ℕ) (runs : List Run) (R : Checked s n vs at ents rank runs)
+    (room : limit < length at) (W : WideOrder rank runs) (m : ℕ) (em : m ≡ entries n) where
   L : Trimmed s (take n vs) (take (n + 1) at) (take m ents)
   L = rw em (trimmed s n vs at ents R.headed room R.loaded)
 
@@ -177,7 +170,7 @@ module _ (s : List ℕ) (n : ℕ) (e : check_reply s ≡ accepted n) (vs at ents
   many_is = sym P.board.all ∙ length_is
 
   -- an accepted block's order fits to its end
-  fitted : Fitted (take (n + 1) at) (take m ents) (take n vs)
+  pub fitted : Fitted (take (n + 1) at) (take m ents) (take n vs)
   fitted =
       let G = held (take (n + 1) at) (take m ents) in
       record {
@@ -190,25 +183,18 @@ module _ (s : List ℕ) (n : ℕ) (e : check_reply s ≡ accepted n) (vs at ents
       }
 
   -- and check has kept its runs
-  kept : RunsHeld (take (n + 1) at) (take m ents) (take n vs) begin long
-  kept =
-      record {
-        begins_room = omega (arith, L.headed.most, W.begins);
-        lengths_room = omega (arith, L.headed.most, W.lengths);
-        runs = rw (L.headed.is, L.rings, L.orders) R.ordered.runs;
-      }
+  pub kept : RunsHeld (take (n + 1) at) (take m ents) (take n vs) runs
+  kept = record { room = omega (arith, L.headed.most, W.known); known = rw (L.headed.is, L.rings, L.orders) R.ordered.known }
 
-  pub reachable : (k : ℕ) → 3 ≤ k → k ≤ posts s → Reachable (take (n + 1) at) (take m ents) (take n vs) begin long k
-  reachable k h i = record { fitted = fitted; kept = kept; least = h; most = omega (arith, i, L.headed.is) }
+-- the positions by name, of all posts
+pub ranked_below : (s : List ℕ) (G : List (List ℕ)) (vs rank : List ℕ) → G ≡ lists s → vs ≡ order s → Ranked (order s) rank
+    → RankedBelow (length G) vs rank
+ranked_below s G vs rank rings orders R =
+    let many : length (order s) ≡ length (lists s) = omega (arith, order_length s, lists_count s) in
+    let below : RankedBelow (length (lists s)) (order s) rank = subst (λ (m : ℕ). RankedBelow m (order s) rank) many R in
+    rw (rings, orders) below
 
-  pub positions : RankedBelow (length (held (take (n + 1) at) (take m ents))) (take n vs) rank
-  positions =
-      let all : RankedBelow (length (take n vs)) (take n vs) rank = subst⁻¹ (λ (l : List ℕ). Ranked l rank) L.orders R.ordered.ranked in
-      subst (λ (z : ℕ). RankedBelow z (take n vs) rank) P.board.all all
-
-  pub lists_are : (k : ℕ) → (held (take (n + 1) at) (take m ents) ≡ lists s) × (take k (take n vs) ≡ take k (order s))
-  lists_are k = (L.rings, ap (take k) L.orders)
-
-pub checked_as : (s : List ℕ) (m n : ℕ) → m ≡ n → (vs at ents rank begin long : List ℕ) → Checked s n vs at ents rank begin long
-    → Checked s m vs at ents rank begin long
-checked_as s m n e vs at ents rank begin long R = subst⁻¹ (λ (z : ℕ). Checked s z vs at ents rank begin long) e R
+-- the stage of the lists and the order that are held
+pub stage_same : (s : List ℕ) (k : ℕ) (G : List (List ℕ)) (vs : List ℕ) → G ≡ lists s → vs ≡ order s → stage G (take k vs) ≡ stage_at k s
+unfolding stage_at
+stage_same s k G vs rings orders = rw (rings, orders) refl

@@ -1,6 +1,6 @@
 -- Beside the demands: what is told of a post's run is so, and "fit between a and b" is true on the sheet (docs/RULES.md: O6, R8, X9). Of any unit with
 -- the three services.
-use Rattle.std.specs.Prelude.{ℕ, ◌+◌, ◌*◌, ◌-◌, ◌≤◌, ◌<◌, ◌≡◌, ◌⊎◌, ◌↔◌, List, length, get_or, take}
+use Rattle.std.specs.Prelude.{ℕ, ◌+◌, ◌*◌, ◌-◌, ◌≤◌, ◌<◌, ◌≡◌, ◌⊎◌, ◌↔◌, List, length, get_or, take, Ok}
 use Rattle.words.specs.Lists.{In, last_of}
 use Rattle.words.specs.Positions.{post, earlier, Earlier}
 use Rattle.block.specs.Block.{order, lists}
@@ -8,7 +8,6 @@ use Rattle.rings.specs.Rings.{ring}
 use Rattle.rings.specs.Plane.{Wire}
 use Rattle.order.specs.Order.{from, run_begin, run}
 use Rattle.order.specs.Ranked.{fit_of}
-use Rattle.order.specs.declared.Fit.TheVariants.{Good}
 use Rattle.placing.specs.declared.Record.{Record}
 use Rattle.drawing.specs.Meeting.{Places}
 use Rattle.lamp.specs.Given.{accepted}
@@ -51,7 +50,7 @@ pub record Between (s : List ℕ) (k j : ℕ) (now : Places) (a b : ℕ) : Type 
 pub record FitBetween (U : Services) : Type 0 where
   -- of an accepted block, for each position j from 3 on: what the order's rule finds there
   pub good : (s : List ℕ) (n j : ℕ) → U.check s ≡ accepted n → 3 ≤ j → j ≤ n
-      → fit_of (lists s) (earlier (order s) j) (post (order s) j) ≡ Good (begin_at s j) (length (run_at s j))
+      → fit_of (lists s) (earlier (order s) j) (post (order s) j) ≡ Ok (record { begin = begin_at s j; many = length (run_at s j) })
   pub found : (s : List ℕ) (n j : ℕ) → U.check s ≡ accepted n → 3 ≤ j → j ≤ n → RunFound s j (begin_at s j) (length (run_at s j))
   -- the last run begins at v1, and ends at v2
   pub from_first : (s : List ℕ) (n : ℕ) → U.check s ≡ accepted n → get_or (list_at s n) (begin_at s n) 0 ≡ post (order s) 1

@@ -1,5 +1,4 @@
 pub mod Replies
-pub mod Asked
 pub mod Demands
 pub mod Mirror
 pub mod Exact

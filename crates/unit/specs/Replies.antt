@@ -6,8 +6,6 @@ use Rattle.placing.specs.Records.{record_of, entries_of, ends_of}
 use Rattle.placing.specs.declared.Record.{Record}
 use Rattle.lamp.specs.Lamp.{sheet_rows, post_rows}
 use Rattle.lamp.specs.Given.{Reply, accepted, refused, given}
-use Rattle.lamp.specs.Refusals.{number_of, place_of}
-use Rattle.unit.specs.declared.Posted.{Posted}
 
 -- stage k of a block
 unfoldable pub stage_at : ℕ → List ℕ → Stage
@@ -33,8 +31,3 @@ ends_after s k b = buffer_for (sheet_reply s k b) (ends_of (lists s) (take k (or
 -- post: accepted with the record
 unfoldable pub post_reply : List ℕ → ℕ → ℕ → Reply Record
 post_reply s k u = given (post_rows s k u) s (λ s. record_of (lists s) (stage_at k s) u)
-
--- the reply of post: the record, or the refusal's number and place
-abbrev pub posted_of : Posted → Reply Record
-posted_of (Posted.Accepted r) = accepted r
-posted_of (Posted.Refused f) = refused (number_of f) (place_of f)

@@ -1,49 +1,42 @@
 // The rows that follow check's.
-ghost use Rattle.std.specs.Prelude.{◌≡◌, ◌≤◌};
-ghost use Rattle.block.specs.Block.{posts, Headed};
-ghost use Rattle.lamp.specs.Lamp.{room_rows, name_rows};
-ghost use Rattle.lamp.specs.Given.{reply_of, given};
-ghost use Rattle.unit.specs.Asked.{further_rows};
+ghost use Rattle.std.specs.Prelude.{◌≡◌, ◌++◌, ◌*◌};
+ghost use Rattle.lamp.specs.Lamp.{stage_rows, room_rows, name_rows};
+ghost use Rattle.lamp.specs.Given.{reply_of, given, tried};
 
-use crate::Ask;
-use lamp::{Answer, Refusal};
+use block::Body;
+use lamp::Refusal;
 
-// The room in a buffer.
-fn room_row(s: &[u8], n: usize, k: usize, room: usize) -> Answer
-    requires { Headed s.now n × (k ≤ n) }
-    ensures { reply_of result ≡ given (room_rows k room) s.now posts }
-{
-    if room < 2 * k {
-        return Answer::Refused(Refusal::Room);
-    }
-    Answer::Accepted(n as u16)
-}
-
-// The name of a post.
-fn name_row(s: &[u8], n: usize, u: usize) -> Answer
-    requires { Headed s.now n }
-    ensures { reply_of result ≡ given (name_rows u) s.now posts }
-{
-    if n <= u {
-        return Answer::Refused(Refusal::Name);
-    }
-    Answer::Accepted(n as u16)
-}
-
-// The rows that follow check's: the stage, and the one of what is asked.
-pub fn further(s: &[u8], n: usize, k: usize, ask: Ask, room: usize) -> Answer
-    requires { Headed s.now n }
-    ensures { reply_of result ≡ given (further_rows ask k room) s.now posts }
+// The stage.
+fn stage(b: Body<'_>, k: usize) -> Result<(), Refusal>
+    ensures { reply_of result ≡ tried (stage_rows k) b.entry.bytes.now }
 {
     if k < 3 {
-        return Answer::Refused(Refusal::Stage);
+        return Err(Refusal::Stage);
     }
-    if n < k {
-        return Answer::Refused(Refusal::Stage);
+    if b.block.n < k {
+        return Err(Refusal::Stage);
     }
-    match ask {
-        Ask::Sheet => room_row(s, n, k, room),
-        Ask::Ends => room_row(s, n, k, room),
-        Ask::Post(u) => name_row(s, n, u),
+    Ok(())
+}
+
+// The stage, and the room in a buffer; the count of the entries that go there is answered.
+pub fn room(b: Body<'_>, k: usize, room: usize) -> Result<u16, Refusal>
+    ensures { reply_of result ≡ given (stage_rows k ++ room_rows k room) b.entry.bytes.now (λ z. 2 * k) }
+{
+    stage(b, k)?;
+    if room < 2 * k {
+        return Err(Refusal::Room);
     }
+    Ok((2 * k) as u16)
+}
+
+// The stage, and the name of a post, which is answered.
+pub fn name(b: Body<'_>, k: usize, u: usize) -> Result<u16, Refusal>
+    ensures { reply_of result ≡ given (stage_rows k ++ name_rows u) b.entry.bytes.now (λ z. u) }
+{
+    stage(b, k)?;
+    if b.block.n <= u {
+        return Err(Refusal::Name);
+    }
+    Ok(u as u16)
 }
