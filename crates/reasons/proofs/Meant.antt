@@ -1,4 +1,4 @@
--- The table has the words of each refusal, and how long they are.
+-- The text of all words has those of each refusal in the line of its number; and how long they are.
 use Prim.Native.Nat.{ℕ, ◌+◌, ◌*◌, ◌≤◌}
 use mathlib.Core.Path.{◌≡◌, refl, ap}
 use mathlib.Core.Bool.{Bool, true, false, cond}
@@ -15,7 +15,7 @@ use Rattle.lamp.specs.declared.Refusal.TheVariants.{Repeated, Unreturned, Triang
 use Rattle.text.specs.Letters.{numbered}
 use Rattle.text.proofs.Numerals.{is_mark, numbered_length}
 use Rattle.reasons.specs.Reasons.{words_of, all_degrees, number_in, whole_board, reason_of, longest_reason}
-use Rattle.reasons.specs.Table.{table, line_of, line_from, line_at}
+use Rattle.reasons.proofs.Table.{table, line_of, line_from, line_at}
 
 at_number : (r : Refusal) → line_at (number_of r) table ≡ words_of r
 unfolding table line_from flat_map numbers refusals_at with_number

@@ -62,7 +62,7 @@ twenty_at_most n = rw (digits_length 10 (width n) n) (omega (arith, (first_is (�
 -- ---- texts with a number in
 
 -- pieces one after the other: of two lists, and one more at the end
-pub pieces_both : (f : ℕ → List ℕ) (l m : List ℕ) → flat_map f (l ++ m) ≡ flat_map f l ++ flat_map f m
+pieces_both : (f : ℕ → List ℕ) (l m : List ℕ) → flat_map f (l ++ m) ≡ flat_map f l ++ flat_map f m
 unfolding flat_map
 pieces_both f [] m = refl
 pieces_both f (a ∷ l) m = ap (λ (t : List ℕ). f a ++ t) (pieces_both f l m) ∙ sym (append_assoc (f a) (flat_map f l) (flat_map f m))
@@ -74,14 +74,6 @@ pieces_last f l x = pieces_both f l (x ∷ []) ∙ ap (λ (t : List ℕ). flat_m
 pub numbered_none : (x : ℕ) → numbered x [] ≡ []
 unfolding numbered flat_map
 numbered_none x = refl
-
-pub numbered_one : (x c : ℕ) → numbered x (c ∷ []) ≡ numeral x c
-unfolding numbered flat_map
-numbered_one x c = append-nil (numeral x c)
-
-pub numbered_both : (x : ℕ) (t u : List ℕ) → numbered x (t ++ u) ≡ numbered x t ++ numbered x u
-unfolding numbered
-numbered_both x t u = pieces_both (numeral x) t u
 
 pub numbered_last : (x : ℕ) (t : List ℕ) (c : ℕ) → numbered x (t ++ c ∷ []) ≡ numbered x t ++ numeral x c
 unfolding numbered

@@ -29,26 +29,14 @@ pub write_none : (f : Filling) → write f [] ≡ f
 unfolding write
 write_none f = refl
 
-pub write_one : (f : Filling) (c : ℕ) (t : List ℕ) → write (put f c) t ≡ write f (c ∷ t)
-unfolding write
-write_one f c t = refl
-
 pub write_more : (f : Filling) (t u : List ℕ) → write (write f t) u ≡ write f (t ++ u)
 unfolding write
 write_more f [] u = refl
 write_more f (c ∷ t) u = write_more (put f c) t u
 
-pub write_last : (f : Filling) (t : List ℕ) (c : ℕ) → put (write f t) c ≡ write f (t ++ c ∷ [])
-unfolding write
-write_last f t c = write_more f t (c ∷ [])
-
 -- two steps are one: a, and then b
 pub write_then : (f : Filling) {g h : Filling} (a b : List ℕ) → g ≡ write f a → h ≡ write g b → h ≡ write f (a ++ b)
 write_then f a b e d = d ∙ ap (λ (z : Filling). write z b) e ∙ write_more f a b
-
-pub put_written : (f : Filling) {g : Filling} (c : ℕ) → g ≡ put f c → g ≡ write f (c ∷ [])
-unfolding write
-put_written f c e = e
 
 pub write_length : (f : Filling) (t : List ℕ) → length (write f t).1 ≡ length f.1
 unfolding write
@@ -83,10 +71,6 @@ behind d (x ∷ rest) (c ∷ t) =
 
 pub written : (b t : List ℕ) → write (filling 0 b) t ≡ filled_with t b
 written b t = behind [] b t ∙ rw (zero-add (length t), zero-add (length b)) refl
-
--- what was written from the start is this text
-pub fills : (b t : List ℕ) {g : Filling} {u : List ℕ} → g ≡ write (filling 0 b) t → u ≡ t → g ≡ filled_with u b
-fills b t e d = e ∙ written b t ∙ ap (λ (z : List ℕ). filled_with z b) (sym d)
 
 pub one_filling : OneFilling
 one_filling = record { same = λ f e d after other p q. (ap (λ (g : Filling). g.0) (p ∙ sym q), ap (λ (g : Filling). g.1) (p ∙ sym q)) }

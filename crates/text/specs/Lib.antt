@@ -1,3 +1,4 @@
 pub mod Letters
 pub mod Filling
 pub mod Said
+pub mod Pages

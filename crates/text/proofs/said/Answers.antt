@@ -1,55 +1,27 @@
-use borrow.Author.Rules.{rules}
-use native.Mathlib.Omega.{arith}
-use native.Mathlib.Numerals.{add-one}
-use Prim.Native.Nat.{ℕ, min}
-use mathlib.Core.List.{List}
-use mathlib.Core.Path.{refl, sym, ap, ap₂, ◌∙◌}
-use lib.ListN.{take, get_or}
-use lib.Seq.{take-suc, take_all}
+use mathlib.Core.Path.{refl, sym, ◌∙◌}
+use native.Mathlib.Nat.{zero-min}
+use lib.ListN.{get_or, take}
+use Rattle.std.proofs.lemmas.List.{take_more}
 use Rattle.text.specs.Letters.{all_digits, value_after}
-use native.Mathlib.Nat.{zero-min, min-le_right}
-use Rattle.text.proofs.Reading.{value_last, digits_last, cut_more, is_digit_lem, too_low, too_high, said_none, said_other, said_number}
+use Rattle.text.proofs.Reading.{value_last, digits_last, said_other, digit_more}
 use Rattle.text.proofs.said.Goals as goal
 
-pub returns-then-word-eq0 : goal.returns-then-word-eq0
-returns-then-word-eq0 c = let a = c.args in said_none a.most a.word.now (omega arith)
-
-pub loop-i-init : goal.loop-i-init
+pub loop-c-init : goal.loop-c-init
 unfolding value_after all_digits
-loop-i-init c = (search rules, sym (zero-min _), refl, search rules)
+loop-c-init c = record { read = sym (zero-min _); digits = refl }
 
-pub returns-then-c-lt48 : goal.returns-then-c-lt48
-returns-then-c-lt48 c =
-    let loop = c.loop-i in
-    let a = c.args in
-    said_other a.most a.word.now loop.i (omega arith) (too_low (get_or a.word.now loop.i 0) (omega arith))
+pub returns-then-not-is_ascii_digit : goal.returns-then-not-is_ascii_digit
+returns-then-not-is_ascii_digit c =
+    said_other _ _ c.loop-c.c-index c.loop-c-test.true (sym c.is_ascii_digit.ensures.value ∙ c.if-not-is_ascii_digit.true)
 
-pub returns-then-c-gt57 : goal.returns-then-c-gt57
-returns-then-c-gt57 c =
-    let a = c.args in
-    said_other a.most a.word.now c.loop-i.i (omega arith) (too_high (get_or a.word.now c.loop-i.i 0) (omega arith))
-
-pub more-v-requires : goal.more-v-requires
-more-v-requires c = (omega arith, search rules, omega arith)
-
-pub loop-i-preserved : goal.loop-i-preserved
-loop-i-preserved c =
-    let a = c.args in
-    let loop = c.loop-i in
-    let w = a.word.now in
-    let d = get_or w loop.i 0 in
-    let next = add-one loop.i in (
-      search rules,
-      rw (next, take-suc w loop.i 0 (omega arith), value_last 0 (take loop.i w) d)
-          (c.more-v.ensures ∙ cut_more _ _ _ _ loop.invariant.1 (omega arith)),
-      rw (next, take-suc w loop.i 0 (omega arith)) (digits_last (take loop.i w) d loop.invariant.2 (is_digit_lem d (omega arith) (omega arith))),
-      rw c.more-v.ensures (min-le_right _ _),
-    )
-
-pub returns : goal.returns
-returns c =
-    let loop = c.loop-i in
-    let a = c.args in
-    let whole = take_all loop.i a.word.now (omega arith) in
-    said_number a.most a.word.now loop.v (omega arith) (ap all_digits (sym whole) ∙ loop.invariant.2)
-    (loop.invariant.1 ∙ ap₂ (λ (w : List ℕ) (m : ℕ). min (value_after 0 w) m) whole c.number-m.ensures.0)
+pub loop-c-preserved : goal.loop-c-preserved
+loop-c-preserved c =
+    let loop = c.loop-c in
+    let w = c.args.word.now in
+    let d = get_or w loop.c-index 0 in
+    let is = sym c.is_ascii_digit.ensures.value ∙ c.if-not-is_ascii_digit.false in
+    let more = take_more w loop.c-index 0 c.loop-c-test.true in
+    record {
+      read = rw (more, value_last 0 (take loop.c-index w) d) (c.min-said.ensures ∙ rw c.from.ensures (digit_more _ _ _ _ loop.invariant.read is));
+      digits = rw more (digits_last (take loop.c-index w) d loop.invariant.digits is);
+    }

@@ -1,4 +1,4 @@
--- The words as the code holds them: a text with a line for each number. Only inner contracts cite it.
+-- The words of all refusals as one text, a line for each number: the law in Meant.antt speaks of it.
 use Rattle.std.specs.Prelude.{ℕ, ◌+◌, cond, not, ◌&&◌, eqb}
 use mathlib.Core.List.{List, [], ◌∷◌, ◌++◌, flat_map}
 use Rattle.std.proofs.Math.Option.{Option, none, some}

@@ -1,0 +1,6 @@
+use lib.ListN.{take}
+use Rattle.text.specs.Pages.{Writes}
+use Rattle.text.proofs.Page.say.Given as goal
+
+abbrev pub invariant-loop-c : goal.invariant-loop-c
+invariant-loop-c l = Writes l.initial.self (take l.c-index l.t) l.self
