@@ -6,20 +6,12 @@ mod boards;
 mod lists;
 mod over;
 
-ghost use Rattle.std.specs.Prelude.{◌≡◌, length};
-
 use block::Block;
 use std::io;
 use std::io::Write;
 
 // Room for the longest line of a case, and more.
 const LINE: usize = 200;
-
-fn no_line() -> [u8; LINE]
-    ensures { 200 ≡ length result }
-{
-    [0u8; LINE]
-}
 
 // The first n bytes of a text.
 fn print<W: Write>(to: &mut W, t: &[u8], n: usize) -> io::Result<()> {
@@ -30,7 +22,7 @@ fn print<W: Write>(to: &mut W, t: &[u8], n: usize) -> io::Result<()> {
 }
 
 fn check<W: Write>(to: &mut W, s: &[u8]) -> io::Result<()> {
-    let mut line = no_line();
+    let mut line = [0u8; LINE];
     let n = show::check(s, &mut line);
     print(to, &line, n)
 }
@@ -43,13 +35,13 @@ fn check_front<W: Write>(to: &mut W, s: &[u8], n: usize) -> io::Result<()> {
 }
 
 fn reply_of_sheet<W: Write>(to: &mut W, s: &[u8], k: usize, buffer: &mut [u16]) -> io::Result<()> {
-    let mut line = no_line();
+    let mut line = [0u8; LINE];
     let n = show::reply_of_sheet(s, k, buffer, &mut line);
     print(to, &line, n)
 }
 
 fn reply_of_post<W: Write>(to: &mut W, s: &[u8], k: usize, u: usize) -> io::Result<()> {
-    let mut line = no_line();
+    let mut line = [0u8; LINE];
     let n = show::reply_of_post(s, k, u, &mut line);
     print(to, &line, n)
 }
@@ -122,9 +114,9 @@ fn heads<W: Write>(to: &mut W) -> io::Result<()> {
     d[6] = 2;
     show::print(to, b"10. n = 2: ")?;
     check(to, &d)?;
-    let many = Block::LIMIT + 1;
-    d[5] = (many / 256 % 256) as u8;
-    d[6] = (many % 256) as u8;
+    let [high, low] = (Block::LIMIT as u16 + 1).to_be_bytes();
+    d[5] = high;
+    d[6] = low;
     show::print(to, b"10. n one above the limit: ")?;
     check(to, &d)?;
     let e = boards::twice();

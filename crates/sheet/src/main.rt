@@ -1,5 +1,6 @@
 // Reads standard input as one block and prints its last stage, or the refusal.
 // What was read is the block where a read failed, and a write that fails is let go.
+// These lines stand in each program, to be read: no contract says what standard input and output do.
 #![tactic(auto)]
 
 fn main(rt: HostRuntime) {

@@ -7,7 +7,7 @@ use native.Mathlib.Nat.{min-eq_left, min-eq_right}
 use native.Mathlib.Omega.{arith}
 use native.Mathlib.Decide.{dec_lt}
 use Rattle.block.specs.Layout.{limit}
-use Rattle.text.specs.declared.Word.TheVariants.{Number, Other}
+use Rattle.std.specs.Prelude.{Some, None}
 use Rattle.text.specs.Letters.{is_number, value_of}
 use Rattle.text.specs.Said.{said_up_to}
 use Rattle.show.specs.Shown.{sheet_text, usage, stage_text}
@@ -21,22 +21,22 @@ cut_off s v = go (dec_lt v (limit + 1))
     go (yes h) = ap (sheet_text s) (sym (min-eq_left (omega arith)))
     go (no h) = let e : min v (limit + 1) ≡ limit + 1 = min-eq_right (omega arith) in rw e (beyond s v (limit + 1) (omega arith) (omega arith))
 
-not_other : {P : Type 0} {k : ℕ} → Number k ≡ Other → P
-not_other e = absurd (let z : ◌≡◌ {A = ℕ} 0 1 = cc in omega arith)
+not_none : {P : Type 0} {k : ℕ} → Some k ≡ None → P
+not_none e = absurd (let z : ◌≡◌ {A = ℕ} 0 1 = cc in omega arith)
 
 module _ (s word : List ℕ) where
-  pub names_stage : (k : ℕ) → Number k ≡ said_up_to (limit + 1) word → stage_text s word ≡ sheet_text s k
+  pub names_stage : (k : ℕ) → Some k ≡ said_up_to (limit + 1) word → stage_text s word ≡ sheet_text s k
   unfolding stage_text
   names_stage k e = go (is_number word) e
     where
-      go : (b : Bool) → Number k ≡ cond b (Number (min (value_of word) (limit + 1))) Other → cond b (sheet_text s (value_of word)) usage ≡ sheet_text s k
+      go : (b : Bool) → Some k ≡ cond b (Some (min (value_of word) (limit + 1))) None → cond b (sheet_text s (value_of word)) usage ≡ sheet_text s k
       go true q = let is : k ≡ min (value_of word) (limit + 1) = cc in rw is (cut_off s (value_of word))
-      go false q = not_other q
+      go false q = not_none q
 
-  pub names_none : Other ≡ said_up_to (limit + 1) word → stage_text s word ≡ usage
+  pub names_none : None ≡ said_up_to (limit + 1) word → stage_text s word ≡ usage
   unfolding stage_text
   names_none e = go (is_number word) e
     where
-      go : (b : Bool) → Other ≡ cond b (Number (min (value_of word) (limit + 1))) Other → cond b (sheet_text s (value_of word)) usage ≡ usage
-      go true q = not_other (sym q)
+      go : (b : Bool) → None ≡ cond b (Some (min (value_of word) (limit + 1))) None → cond b (sheet_text s (value_of word)) usage ≡ usage
+      go true q = not_none (sym q)
       go false q = refl

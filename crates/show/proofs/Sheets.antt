@@ -6,7 +6,7 @@ use mathlib.Core.List.{List, [], ◌++◌, append_assoc}
 use native.Mathlib.Numerals.{add-one}
 use native.Mathlib.Omega.{arith}
 use lib.ListN.{length, get_or, take, drop, length-take}
-use lib.Seq.{get_or-take}
+use lib.Seq.{get_or-take, length-take-le}
 use borrow.Author.Tests.{lt-ltb, le-ltb}
 use Rattle.block.specs.Layout.{limit}
 use Rattle.block.specs.Block.{posts, order, Headed}
@@ -37,6 +37,18 @@ lines_same (suc k) f g same = ap₂ (λ (a b : List ℕ). a ++ b) (lines_same k 
 
 pub entry_line_lem : (vs b : List ℕ) (i : ℕ) → position_line (i + 1) (get_or vs i 0) (get_or b (2 * i) 0) (get_or b (2 * i + 1) 0) ≡ entry_line vs b (suc i)
 entry_line_lem vs b i = let e : suc i - 1 ≡ i = omega arith in rw (e, add-one) refl
+
+-- the lines of the first k of n names
+pub front_lines : (xs b : List ℕ) (k : ℕ) → k ≤ length xs
+    → lines_to k (entry_line xs b) ≡ lines_to (length (take k xs)) (entry_line (take k xs) b)
+front_lines xs b k h =
+    let long : length (take k xs) ≡ k = length-take-le k xs h in
+    rw long (lines_same k _ _ same)
+  where
+    same : (j : ℕ) → j < k → entry_line xs b (suc j) ≡ entry_line (take k xs) b (suc j)
+    same j l =
+        let less : suc j - 1 ≡ j = omega arith in
+        rw (less, get_or-take k xs j 0 l) refl
 
 -- ---- which text it is
 

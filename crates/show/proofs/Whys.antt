@@ -3,6 +3,8 @@ use Prim.Native.Nat.{ℕ, ◌+◌, ◌*◌, ◌-◌, ◌≤◌, ◌<◌}
 use mathlib.Core.Path.{◌≡◌, refl, sym, ◌∙◌}
 use mathlib.Core.List.{List, ◌++◌}
 use mathlib.Core.Option.{Option, none, some}
+use Rattle.std.specs.Prelude.{Option as Maybe, Some, None, MatchOption}
+use Rattle.std.specs.Option.{unwrap_or}
 use native.Mathlib.Omega.{arith}
 use native.Mathlib.Decide.{dec_lt}
 use lib.ListN.{length, length-append}
@@ -30,6 +32,11 @@ why_accepted s n e = rw e refl
 too_short : (s : List ℕ) → length s < 7 → check_reply s ≡ refused 1 0
 unfolding check_reply check_rows block_rows
 too_short s h = given_stop s posts short_row _ (lt-ltb (length s) 7 h)
+
+-- a number that long blocks state
+pub stated : (o : Maybe ℕ) {n least p : ℕ} → MatchOption o (n < least) (λ m. m ≡ p) → least ≤ n → unwrap_or o 0 ≡ p
+stated None h l = absurd (omega arith)
+stated (Some m) h l = h
 
 short_alike : (n m : ℕ) → refused_line n 1 0 ≡ refused_line m 1 0
 unfolding refused_line refusals_at with_number reason_of

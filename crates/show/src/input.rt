@@ -6,6 +6,7 @@ use std::io;
 use std::io::Read;
 
 // Reads until the buffer is full, the input ends or a read fails: how many bytes it put at the buffer's start, and whether a read failed.
+// Both, since what was read counts where a read failed (rule T1); by `read`, since `read_exact` says nothing there of what was read.
 pub fn read_block<R: Read>(input: &mut R, block: &mut [u8]) -> (usize, io::Result<()>)
     ensures in_bounds { result.0 ≤ length block.new }
     ensures bytes { Consumes (R.remaining input.old) (R.remaining input.new) (take result.0 block.new) }

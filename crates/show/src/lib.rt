@@ -8,86 +8,98 @@ mod replies;
 ghost use Rattle.std.specs.Prelude.{◌≡◌, ◌++◌, ◌+◌, ◌*◌, ◌≤◌, length, OnOk};
 ghost use Rattle.std.specs.Io.KnownBytes.{Appends};
 ghost use Rattle.block.specs.Layout.{limit, size};
-ghost use Rattle.block.specs.Block.{order, Headed};
+ghost use Rattle.block.specs.Block.{order};
 ghost use Rattle.lamp.specs.Refusals.{number_of, place_of};
-ghost use Rattle.text.specs.Filling.{filling, write, filled_with};
+ghost use Rattle.text.specs.Filling.{filling, filled_with};
+ghost use Rattle.text.specs.Pages.{Writes};
 ghost use Rattle.show.specs.Shown.{refusal_text, refusal_line, head_line, position_line, lines_to, sheet_text, last_text, stage_text, longest_text};
 ghost use Rattle.show.specs.Entered.{entry_line};
 
-use block::Block;
+use block::{Block, Body};
 pub use input::read_block;
-use lamp::{Answer, Refusal};
+use lamp::Refusal;
 pub use plain::{print_why, why};
 pub use replies::{check, reply_of_post, reply_of_sheet};
 use std::io;
 use std::io::Write;
-use text::Word;
+use text::Page;
 
 // A refusal: the word, its number and its place.
-pub fn refusal(r: Refusal, out: &mut [u8], at: usize) -> usize
-    ensures { filling result out.new ≡ write (filling at out.old) (refusal_text (number_of r) (place_of r)) }
+pub fn refusal(r: Refusal, page: &mut Page)
+    ensures { Writes page.old (refusal_text (number_of r) (place_of r)) page.new }
 {
-    let t = r.told();
-    let word = text::say(out, at, b"refused");
-    let number = text::spaced(out, word, t.number);
-    text::spaced(out, number, t.place)
+    let told = r.told();
+    page.say(b"refused");
+    page.spaced(told.number);
+    page.spaced(told.place);
 }
 
 // The same as a line.
-pub fn refusal_line(r: Refusal, out: &mut [u8], at: usize) -> usize
-    ensures { filling result out.new ≡ write (filling at out.old) (refusal_line (number_of r) (place_of r)) }
+pub fn refusal_line(r: Refusal, page: &mut Page)
+    ensures { Writes page.old (refusal_line (number_of r) (place_of r)) page.new }
 {
-    let end = refusal(r, out, at);
-    text::put(out, end, b'\n')
+    refusal(r, page);
+    page.put(b'\n');
+}
+
+// A refusal's line alone. What begins a text takes a buffer and answers how many bytes it put there, as `Read::read` does; what goes on takes the page.
+pub fn refused(r: Refusal, out: &mut [u8]) -> usize
+    ensures { filling result out.new ≡ filled_with (refusal_line (number_of r) (place_of r)) out.old }
+{
+    let mut page = Page { out, at: 0 };
+    refusal_line(r, &mut page);
+    page.at
 }
 
 // A sheet's first line.
-fn head_line(n: u16, k: u16, out: &mut [u8], at: usize) -> usize
-    ensures { filling result out.new ≡ write (filling at out.old) (head_line n k) }
+fn head_line(n: u16, k: u16, page: &mut Page)
+    ensures { Writes page.old (head_line n k) page.new }
 {
-    let word = text::say(out, at, b"sheet");
-    let posts = text::spaced(out, word, n);
-    let stage = text::spaced(out, posts, k);
-    text::put(out, stage, b'\n')
+    page.say(b"sheet");
+    page.spaced(n);
+    page.spaced(k);
+    page.put(b'\n');
 }
 
 // The line of a position.
-fn position_line(i: u16, u: u16, x: u16, y: u16, out: &mut [u8], at: usize) -> usize
-    ensures { filling result out.new ≡ write (filling at out.old) (position_line i u x y) }
+fn position_line(i: u16, u: u16, x: u16, y: u16, page: &mut Page)
+    ensures { Writes page.old (position_line i u x y) page.new }
 {
-    let position = text::number(out, at, i);
-    let name = text::spaced(out, position, u);
-    let column = text::spaced(out, name, x);
-    let height = text::spaced(out, column, y);
-    text::put(out, height, b'\n')
+    page.number(i);
+    page.spaced(u);
+    page.spaced(x);
+    page.spaced(y);
+    page.put(b'\n');
 }
 
-// The lines of positions 1 to k, from the names and the sheet's entries.
-fn lines(vs: &[u16], b: &[u16], k: usize, out: &mut [u8], at: usize) -> usize
-    requires { (k ≤ length vs.now) × (2 * k ≤ length b.now) × (k ≤ limit) }
-    ensures { filling result out.new ≡ write (filling at out.old) (lines_to k (entry_line vs.now b.now)) }
+// The lines of the positions from 1 on, from the names and the sheet's entries. Numbers are narrowed by `as`, which is proved to lose nothing:
+// `try_from` would answer an error that cannot come.
+fn lines(vs: &[u16], b: &[u16], page: &mut Page)
+    requires { (2 * length vs.now ≤ length b.now) × (length vs.now ≤ limit) }
+    ensures { Writes page.old (lines_to (length vs.now) (entry_line vs.now b.now)) page.new }
 {
-    let mut end = at;
-    let mut i = 0;
-    while i < k {
-        end = position_line((i + 1) as u16, vs[i], b[2 * i], b[2 * i + 1], out, end);
-        i += 1;
+    for (i, u) in vs.iter().enumerate() {
+        position_line((i + 1) as u16, *u, b[2 * i], b[2 * i + 1], page);
     }
-    end
 }
 
-// Stage k of a block of n posts, whose entries stand in b.
-fn whole_sheet(s: &[u8], n: usize, k: usize, b: &[u16], out: &mut [u8]) -> usize
-    requires { Headed s.now n × (k ≤ n) × (2 * k ≤ length b.now) }
-    ensures { filling result out.new ≡ write (filling 0 out.old)
-        (head_line n k ++ lines_to k (entry_line (order s.now) b.now)) }
+// Stage k of a block, whose entries stand in `sheet`.
+fn whole_sheet(b: Body<'_>, k: usize, sheet: &[u16], out: &mut [u8]) -> usize
+    requires { (k ≤ b.block.n) × (2 * k ≤ length sheet.now) }
+    ensures { filling result out.new ≡ filled_with
+        (head_line b.entry.block.n k ++ lines_to k (entry_line (order b.entry.bytes.now) sheet.now)) out.old }
 {
-    let mut vs = block::no_names();
-    words::unpack(s, Block::ORDER_AT, n, &mut vs);
-    let head = head_line(n as u16, k as u16, out, 0);
-    lines(&vs[..n], b, k, out, head)
+    let n = b.block.n;
+    let mut vs = [0u16; Block::LIMIT];
+    let names = &mut vs[..n];
+    words::unpack(b.bytes, Block::ORDER_AT, names);
+    let mut page = Page { out, at: 0 };
+    head_line(n as u16, k as u16, &mut page);
+    lines(&names[..k], sheet, &mut page);
+    page.at
 }
 
+// Three arrays, each with its length for a promise: a generic one would be `[zero; N]` itself.
 // The entries of the longest sheet.
 const SHEET: usize = 2 * Block::LIMIT;
 
@@ -103,10 +115,14 @@ pub fn sheet(s: &[u8], k: usize, out: &mut [u8]) -> usize
 {
     let mut b = blank();
     match unit::sheet(s, k, &mut b) {
-        Answer::Refused(r) => refusal_line(r, out, 0),
-        Answer::Accepted(_) => {
-            let n = words::number(words::word(s, Block::POSTS_AT));
-            whole_sheet(s, n, k, &b, out)
+        Err(r) => refused(r, out),
+        Ok(_) => {
+            let n = usize::from(words::word(s, Block::POSTS_AT));
+            let body = Body {
+                bytes: s,
+                block: Block { n },
+            };
+            whole_sheet(body, k, &b, out)
         }
     }
 }
@@ -116,8 +132,8 @@ pub fn last_sheet(s: &[u8], out: &mut [u8]) -> usize
     ensures { filling result out.new ≡ filled_with (last_text s.now) out.old }
 {
     match unit::check(s) {
-        Answer::Refused(r) => refusal_line(r, out, 0),
-        Answer::Accepted(n) => sheet(s, words::number(n), out),
+        Err(r) => refused(r, out),
+        Ok(n) => sheet(s, usize::from(n), out),
     }
 }
 
@@ -126,12 +142,12 @@ pub fn stage(s: &[u8], word: &[u8], out: &mut [u8]) -> usize
     ensures { filling result out.new ≡ filled_with (stage_text s.now word.now) out.old }
 {
     match text::said(word, (Block::LIMIT + 1) as u16) {
-        Word::Number(k) => sheet(s, k, out),
-        Word::Other => text::say(
-            out,
-            0,
-            b"usage: stage K < block, with K the stage, from 3 to the number of posts\n",
-        ),
+        Some(k) => sheet(s, k, out),
+        None => {
+            let mut page = Page { out, at: 0 };
+            page.say(b"usage: stage K < block, with K the stage, from 3 to the number of posts\n");
+            page.at
+        }
     }
 }
 
@@ -160,29 +176,14 @@ pub fn print<W: Write>(to: &mut W, t: &[u8]) -> io::Result<()>
     to.write_all(t)
 }
 
-// The whole text of the block's last stage.
-fn hand_last<W: Write>(to: &mut W, s: &[u8], t: &[u8]) -> io::Result<()>
-    requires { t.now ≡ last_text s.now }
-    ensures { OnOk result (Appends (W.contents to.old) (W.contents to.new) (last_text s.now)) }
-{
-    print(to, t)
-}
-
-// The whole text of the stage that the word names.
-fn hand_stage<W: Write>(to: &mut W, s: &[u8], word: &[u8], t: &[u8]) -> io::Result<()>
-    requires { t.now ≡ stage_text s.now word.now }
-    ensures { OnOk result (Appends (W.contents to.old) (W.contents to.new) (stage_text s.now word.now)) }
-{
-    print(to, t)
-}
-
+// A function for each text: one over the function that fills the buffer would tell the text by `F.post`, in more words than these bodies have.
 // Prints a block's last sheet, or its refusal: what is handed to the writer is the whole text.
 pub fn print_last<W: Write>(to: &mut W, s: &[u8]) -> io::Result<()>
     ensures { OnOk result (Appends (W.contents to.old) (W.contents to.new) (last_text s.now)) }
 {
     let mut out = no_text();
     let n = last_sheet(s, &mut out);
-    hand_last(to, s, &out[..n])
+    print(to, &out[..n])
 }
 
 // Prints the stage that the word names.
@@ -191,5 +192,5 @@ pub fn print_stage<W: Write>(to: &mut W, s: &[u8], word: &[u8]) -> io::Result<()
 {
     let mut out = no_text();
     let n = stage(s, word, &mut out);
-    hand_stage(to, s, word, &out[..n])
+    print(to, &out[..n])
 }

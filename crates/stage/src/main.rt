@@ -3,17 +3,15 @@
 #![tactic(auto)]
 
 use std::env::Env;
-use text::Word;
 
 fn main(rt: HostRuntime) {
     let mut word = [0u8; 32];
     let w = rt.arg(1, &mut word).unwrap_or(0);
+    let word = &word[..w];
     let mut block = show::no_bytes();
-    let _ = match text::said(&word[..w], 0) {
-        Word::Other => show::print_stage(&mut rt.stdout(), b"", &word[..w]),
-        Word::Number(_) => {
-            let (n, _) = show::read_block(&mut rt.stdin(), &mut block);
-            show::print_stage(&mut rt.stdout(), &block[..n], &word[..w])
-        }
+    let n = match text::said(word, 0) {
+        Some(_) => show::read_block(&mut rt.stdin(), &mut block).0,
+        None => 0,
     };
+    let _ = show::print_stage(&mut rt.stdout(), &block[..n], word);
 }

@@ -1,11 +1,9 @@
-use Rattle.text.specs.Letters.{letters, newline, numbered}
-use Rattle.text.proofs.Writing.{write_then, put_written}
+use borrow.Author.Rules.{rules}
+use mathlib.Core.Path.{refl}
+use Rattle.text.proofs.Pages.{writes_then, fills}
 use Rattle.show.specs.Why.{accepted_line}
 use Rattle.show.proofs.plain.accepted_line.Goals as goal
 
 pub returns : goal.returns
 unfolding accepted_line
-returns c =
-    let last = write_then _ (numbered _ (letters "#")) newline c.numbered-up.ensures (put_written _ 10 c.put.ensures) in
-    write_then _ (numbered _ (letters "accepted #: the board has # posts, and on its sheet x goes from 0 to ")) _ c.numbered-board.ensures
-    (write_then _ (numbered _ (letters "# and y from 0 to ")) _ c.numbered-across.ensures last)
+returns c = fills (writes_then c.numbered.ensures (writes_then c.numbered-2.ensures (writes_then c.numbered-3.ensures c.put.ensures))) refl (search rules)

@@ -1,21 +1,11 @@
-use mathlib.Core.Path.{sym, ap, ◌∙◌}
-use Rattle.lamp.specs.declared.Answer.{Answer}
-use Rattle.lamp.specs.Given.{reply_of}
-use Rattle.text.specs.Letters.{letters, spaced}
-use Rattle.text.specs.Filling.{filling, write}
-use Rattle.text.proofs.Writing.{write_then}
+use Rattle.text.proofs.Pages.{writes_then}
 use Rattle.show.specs.Replied.{answer_text}
 use Rattle.show.proofs.replies.answer.Goals as goal
 
-pub returns-in-Refused : goal.returns-in-Refused
+pub returns-in-Err : goal.returns-in-Err
 unfolding answer_text
-returns-in-Refused c =
-    let f = filling 0 c.args.out.now in
-    c.refusal.ensures ∙ ap (λ (z : Answer). write f (answer_text (reply_of z))) (sym c.in-Refused.is)
+returns-in-Err c = rw c.in-Err.is c.refusal.ensures
 
-pub returns-in-Accepted : goal.returns-in-Accepted
+pub returns-in-Ok : goal.returns-in-Ok
 unfolding answer_text
-returns-in-Accepted c =
-    let f = filling 0 c.args.out.now in
-    write_then f (letters "accepted") (spaced _) c.say-end.ensures c.spaced.ensures
-    ∙ ap (λ (z : Answer). write f (answer_text (reply_of z))) (sym c.in-Accepted.is)
+returns-in-Ok c = rw c.in-Ok.is (writes_then c.say.ensures c.spaced.ensures)

@@ -1,12 +1,7 @@
-use Prim.Native.Nat.{◌≤◌, ◌-◌}
-use mathlib.Core.Path.{◌≡◌}
-use lib.ListN.{length, take}
-use Rattle.text.specs.Filling.{filling, write}
+use lib.ListN.{take}
+use Rattle.text.specs.Pages.{Writes}
 use Rattle.show.specs.Replied.{spaced_all}
 use Rattle.show.proofs.replies.numbers.Given as goal
 
-abbrev pub invariant-loop-i : goal.invariant-loop-i
-invariant-loop-i l = (l.i ≤ length l.b) × (filling l.end l.out ≡ write (filling l.at l.initial.out) (spaced_all (take l.i l.b)))
-
-abbrev pub decreases-loop-i : goal.decreases-loop-i
-decreases-loop-i l = length l.b - l.i
+abbrev pub invariant-loop-x : goal.invariant-loop-x
+invariant-loop-x l = Writes l.initial.page (spaced_all (take l.x-index l.b)) l.page
