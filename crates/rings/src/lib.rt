@@ -22,7 +22,8 @@ pub enum ListFault {
     Unreturned(u16),
 }
 
-// A board's neighbour lists: all entries one after the other, and where each list begins among them, at last where the last one ends.
+// A board's neighbour lists: all entries one after the other, and where each list begins among them, at last where the last one ends. Lists of lists
+// would want a heap, and the project has fixed memory.
 #[derive(Clone, Copy)]
 pub struct Lists<'a> {
     pub at: &'a [u16],
@@ -96,26 +97,25 @@ impl<'a> Lists<'a> {
         Ok(())
     }
 
-    // The fault of the first bad entry in the lowest list that breaks G3.
+    // The fault of the first bad entry in the lowest list that breaks G3. That there are places, and no more than the limit, is asked by what goes over
+    // all names alone: the rest serves lists of any number.
     pub fn first_bad_ring(self) -> Result<(), ListFault>
         requires { (1 ≤ length self.at.now) × (length self.at.now ≤ limit + 1) }
         ensures { result ≡ fault_of (rings_of self.entry) }
     {
-        let n = self.at.len() - 1;
-        let mut u = 0;
-        // a `loop` over the names, a rule of the project (docs/DECISIONS.md): a labelled break ends both loops, and its value is the answer
-        'names: loop {
-            if n <= usize::from(u) {
-                break 'names Ok(());
-            }
-            let list = self.ring(u);
-            for i in 0..list.len() {
-                let f = self.fault_at(u, list, i);
-                if f.is_err() {
-                    break 'names f;
+        let n = (self.at.len() - 1) as u16;
+        // a labelled break ends both loops, and its value is the answer: a rule of the project (docs/DECISIONS.md)
+        'names: {
+            for u in 0..n {
+                let list = self.ring(u);
+                for i in 0..list.len() {
+                    let f = self.fault_at(u, list, i);
+                    if f.is_err() {
+                        break 'names f;
+                    }
                 }
             }
-            u += 1;
+            Ok(())
         }
     }
 
@@ -127,25 +127,24 @@ impl<'a> Lists<'a> {
         is_next(self.ring(v), a, c)
     }
 
-    // The lowest name at which the triangle rule is broken.
+    // The lowest name at which the triangle rule is broken. No one generic function with the rings above: there the answer is the entry's fault, here the
+    // name, by two definitions, and a test of an entry handed in as a closure would need a contract of its own.
     pub fn first_bad_triangle(self) -> Option<u16>
         requires { (1 ≤ length self.at.now) × (length self.at.now ≤ limit + 1) }
         ensures { result ≡ first_if 0 (length self.entry.at.now - 1) (λ u. not (triangle_rule (rings_of self.entry) u)) }
     {
-        let n = self.at.len() - 1;
-        let mut u = 0;
-        // a `loop` over the names, a rule of the project (docs/DECISIONS.md): a labelled break ends both loops, and its value is the name
-        'names: loop {
-            if n <= usize::from(u) {
-                break 'names None;
-            }
-            let list = self.ring(u);
-            for (i, v) in list.iter().enumerate() {
-                if !self.is_after(*v, after(list, i), u) {
-                    break 'names Some(u);
+        let n = (self.at.len() - 1) as u16;
+        // a labelled break ends both loops, and its value is the name: a rule of the project (docs/DECISIONS.md)
+        'names: {
+            for u in 0..n {
+                let list = self.ring(u);
+                for (i, v) in list.iter().enumerate() {
+                    if !self.is_after(*v, after(list, i), u) {
+                        break 'names Some(u);
+                    }
                 }
             }
-            u += 1;
+            None
         }
     }
 

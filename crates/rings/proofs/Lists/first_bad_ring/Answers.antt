@@ -14,24 +14,24 @@ pub loop-i-preserved : goal.loop-i-preserved
 loop-i-preserved c =
     search_next _ _ _ c.ring-list.ensures.is c.loop-i.i c.loop-i.invariant (omega arith) _ c.fault_at-f.ensures (sym c.is_err.ensures.value ∙ c.if-is_err.false)
 
-pub names-preserved : goal.names-preserved
-names-preserved c =
+pub loop-u-preserved : goal.loop-u-preserved
+loop-u-preserved c =
     let done = search_done _ _ _ c.ring-list.ensures.is c.loop-i.i c.loop-i.invariant (omega arith) in
-    (omega arith, c.names.invariant.1 ∙ first_next _ _ _ (omega arith) done)
+    c.loop-u.invariant ∙ first_next _ _ _ (omega arith) done
 
-pub returns-then-n-from : goal.returns-then-n-from
-returns-then-n-from c =
-    let v = c.names in
+pub returns-after-loop-u : goal.returns-after-loop-u
+returns-after-loop-u c =
+    let v = c.loop-u in
     let many = held_length c.args.self.at.now c.args.self.ents.now in
-    let lowest = v.invariant.1 ∙ first_end _ v.u _ (omega arith) in
+    let lowest = v.invariant ∙ first_end _ v.u _ (omega arith) in
     told_none _ v.u (rw many lowest) (omega arith)
 
 pub returns-then-is_err : goal.returns-then-is_err
 returns-then-is_err c =
-    let v = c.names in
+    let v = c.loop-u in
     let G = held c.args.self.at.now c.args.self.ents.now in
     let many = held_length c.args.self.at.now c.args.self.ents.now in
     let is = sym c.is_err.ensures.value ∙ c.if-is_err.true in
     let found = search_found _ _ _ c.ring-list.ensures.is c.loop-i.i c.loop-i.invariant (omega arith) _ c.fault_at-f.ensures is in
-    let lowest = v.invariant.1 ∙ first_here _ v.u _ (omega arith) found.1 in
+    let lowest = v.invariant ∙ first_here _ v.u _ (omega arith) found.1 in
     c.fault_at-f.ensures ∙ ap (fault_at G v.u) (sym found.0) ∙ told_found G v.u (rw many lowest) (omega arith)

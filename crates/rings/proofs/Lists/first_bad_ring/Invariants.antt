@@ -1,4 +1,4 @@
-use Prim.Native.Nat.{ℕ, ◌-◌, ◌≤◌}
+use Prim.Native.Nat.{ℕ, ◌-◌}
 use mathlib.Core.Path.{◌≡◌}
 use mathlib.Core.Bool.{Bool, not}
 use lib.ListN.{length}
@@ -13,10 +13,7 @@ invariant-loop-i l =
     let G = rings_of l.self in
     first_bad G l.u ≡ first l.i (length l.list - l.i) (is_bad G l.u)
 
-abbrev pub invariant-names : goal.invariant-names
-invariant-names l =
+abbrev pub invariant-loop-u : goal.invariant-loop-u
+invariant-loop-u l =
     let breaks : ℕ → Bool = λ u. not (ring_rule (rings_of l.self) u) in
-    (l.u ≤ l.n) × (first 0 l.n breaks ≡ first l.u (l.n - l.u) breaks)
-
-abbrev pub decreases-names : goal.decreases-names
-decreases-names l = l.n - l.u
+    first 0 l.n breaks ≡ first l.u (l.n - l.u) breaks

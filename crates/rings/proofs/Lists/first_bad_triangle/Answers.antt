@@ -10,19 +10,19 @@ loop-i-init c = triangle_start _ _ _ c.ring-list.ensures.is
 pub loop-i-preserved : goal.loop-i-preserved
 loop-i-preserved c = triangle_pass _ _ _ c.loop-i.i (omega arith) c.loop-i.invariant _ (rw c.after.ensures at c.is_after.ensures) c.if-not-is_after.false
 
-pub names-preserved : goal.names-preserved
-names-preserved c =
+pub loop-u-preserved : goal.loop-u-preserved
+loop-u-preserved c =
     let done = triangle_done _ _ _ c.loop-i.i (omega arith) c.loop-i.invariant in
-    (omega arith, c.names.invariant.1 ∙ first_next _ _ _ (omega arith) done)
+    c.loop-u.invariant ∙ first_next _ _ _ (omega arith) done
 
-pub returns-then-n-from : goal.returns-then-n-from
-returns-then-n-from c =
-    let v = c.names in
-    let e = v.invariant.1 ∙ first_end _ v.u _ (omega arith) in
+pub returns-after-loop-u : goal.returns-after-loop-u
+returns-after-loop-u c =
+    let v = c.loop-u in
+    let e = v.invariant ∙ first_end _ v.u _ (omega arith) in
     none_first_if _ _ _ (omega arith)
 
 pub returns-then-not-is_after : goal.returns-then-not-is_after
 returns-then-not-is_after c =
-    let v = c.names in
+    let v = c.loop-u in
     let fault = triangle_fault_lem _ _ _ c.loop-i.i (omega arith) c.loop-i.invariant _ (rw c.after.ensures at c.is_after.ensures) c.if-not-is_after.true in
-    some_first_if _ _ _ _ (sym (v.invariant.1 ∙ first_here _ v.u _ (omega arith) fault)) (omega arith)
+    some_first_if _ _ _ _ (sym (v.invariant ∙ first_here _ v.u _ (omega arith) fault)) (omega arith)

@@ -1,4 +1,4 @@
-use Prim.Native.Nat.{ℕ, ◌-◌, ◌≤◌}
+use Prim.Native.Nat.{ℕ, ◌-◌}
 use mathlib.Core.Path.{◌≡◌}
 use mathlib.Core.Bool.{Bool, not}
 use lib.ListN.{drop}
@@ -12,10 +12,7 @@ invariant-loop-i l =
     let G = rings_of l.self in
     all_next (λ v w. follows G v w l.u) (drop l.i (around l.list)) ≡ triangle_rule G l.u
 
-abbrev pub invariant-names : goal.invariant-names
-invariant-names l =
+abbrev pub invariant-loop-u : goal.invariant-loop-u
+invariant-loop-u l =
     let breaks : ℕ → Bool = λ u. not (triangle_rule (rings_of l.self) u) in
-    (l.u ≤ l.n) × (first 0 l.n breaks ≡ first l.u (l.n - l.u) breaks)
-
-abbrev pub decreases-names : goal.decreases-names
-decreases-names l = l.n - l.u
+    first 0 l.n breaks ≡ first l.u (l.n - l.u) breaks
