@@ -49,10 +49,6 @@ module _ (s : List ℕ) where
   pub entered : NoneApplies order_rows s → Entered s
   entered h k from to = some_none (entry_fault s) 1 (posts s) h.0 k from (omega arith)
 
-  pub entered_in : (vs : List ℕ) → length vs ≡ posts s → vs ≡ order s → Entered s
-      → (k : ℕ) → 1 ≤ k → k ≤ length vs → bad_entry (length vs) vs k ≡ false
-  entered_in vs l e h k from to = rw (l, e) (h k from (omega arith))
-
   -- ---- the degrees
 
   module _ (n : ℕ) (is : n ≡ posts s) where

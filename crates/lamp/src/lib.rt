@@ -81,6 +81,7 @@ impl Refusal {
     }
 }
 
+// That an array has room for all names is asked where it is lent, here, below and in block: it is that array's length, and no type of its own.
 // The order's entries; vs becomes the order.
 fn order_in(b: Body<'_>, vs: &mut [u16]) -> Result<(), Refusal>
     requires { limit ≤ length vs.old }
@@ -92,7 +93,8 @@ fn order_in(b: Body<'_>, vs: &mut [u16]) -> Result<(), Refusal>
     }
 }
 
-// The degrees and their total; ds becomes the degrees.
+// The degrees and their total, which the order has not; ds becomes the degrees. The name n, which no post has, tells that they are wrong together, as
+// the table has it; it is narrowed by `as`, which is proved to lose nothing.
 fn degrees_in(b: Body<'_>, ds: &mut [u16]) -> Result<(), Refusal>
     requires { limit ≤ length ds.old }
     ensures { (reply_of result ≡ tried degree_rows b.entry.bytes.now) × (take b.entry.block.n ds.new ≡ degrees b.entry.bytes.now) }
@@ -132,7 +134,7 @@ fn loaded(
     ensures kept { OnOk result (Ordered b.entry.bytes.now rank.new runs.new) }
 {
     let board = Board::held(b, arrays.vs, arrays.at, arrays.ents);
-    board.lists()?;
+    board.sound()?;
     order::ranks(board.plan.vs, rank);
     board.fitting(rank, runs)
 }

@@ -80,7 +80,7 @@ impl<'a> Board<'a> {
     }
 
     // Rings, triangles and the outer triangle.
-    pub fn lists(self) -> Result<(), Refusal>
+    pub fn sound(self) -> Result<(), Refusal>
         ensures { reply_of result ≡ tried board_rows self.entry.s.now }
     {
         self.rings()?;
@@ -88,7 +88,8 @@ impl<'a> Board<'a> {
         self.outer()
     }
 
-    // The rule at position k; the run that is found there is answered where no row applies.
+    // The rule at position k; the run that is found there is answered where no row applies. A misfit becomes a refusal here and by no `From`, which
+    // would not know the position; k is narrowed by `as`, which is proved to lose nothing.
     fn position(self, rank: &[u16], k: usize) -> Result<Run, Refusal>
         requires { Ranked self.plan.vs.now rank.now × Ringed self.s.now × (1 ≤ k) × (k ≤ length self.plan.vs.now) }
         ensures { reply_of result ≡ given (position_rows k) self.entry.s.now (run_here k) }
@@ -101,6 +102,7 @@ impl<'a> Board<'a> {
     }
 
     // The rule per position, at positions 3 to n in turn. Where it holds at all of them, the run of each is kept.
+    // `3..=n` would leave the loop from within, and the goals of its end would be shown twice.
     pub fn fitting(self, rank: &[u16], runs: &mut [Run]) -> Result<(), Refusal>
         requires { Ranked self.plan.vs.now rank.now × Ringed self.s.now × (length self.plan.vs.now ≤ length runs.old) }
         ensures reply { reply_of result ≡ tried (rows_from 3 (length self.entry.plan.vs.now)) self.entry.s.now }

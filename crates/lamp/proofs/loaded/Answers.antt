@@ -13,17 +13,17 @@ use Rattle.lamp.proofs.Loads.{ordered}
 use Rattle.lamp.proofs.BoardRows.{ringed}
 use Rattle.lamp.proofs.loaded.Goals as goal
 
-pub returns-in_err-lists-clause-reply : goal.returns-in_err-lists-clause-reply
-returns-in_err-lists-clause-reply c =
-    let told = c.lists.ensures ∙ ap (tried board_rows) c.held-board.ensures in
+pub returns-in_err-sound-clause-reply : goal.returns-in_err-sound-clause-reply
+returns-in_err-sound-clause-reply c =
+    let told = c.sound.ensures ∙ ap (tried board_rows) c.held-board.ensures in
     let p = err_from_is_err_and c.from_residual.result c.from_residual.ensures.1 in
-    rw (p.1, p.2) (stops c.args.b.bytes.now nothing board_rows _ told nothing (rows_from 3 (posts c.args.b.bytes.now)) _ c.in_err-lists.was)
+    rw (p.1, p.2) (stops c.args.b.bytes.now nothing board_rows _ told nothing (rows_from 3 (posts c.args.b.bytes.now)) _ c.in_err-sound.was)
 
 pub fitting-requires : goal.fitting-requires
 fitting-requires c =
     let board = c.held-board.result in
     let names = subst⁻¹ Entered c.held-board.ensures c.requires.1 in
-    let none = none_applied board.s.now nothing board_rows _ c.lists.ensures _ c.in_ok-lists.was in
+    let none = none_applied board.s.now nothing board_rows _ c.sound.ensures _ c.in_ok-sound.was in
     let fine = ringed _ names (none_left ring_rows (triangle_rows ++ outer_rows) _ none) in
     (c.ranks.ensures, fine, omega (arith, board.trimmed.headed.most, c.requires.2.known))
 
@@ -33,7 +33,7 @@ returns-clause-reply c =
     let s = board.s.now in
     c.fitting.ensures.reply
     ∙ ap (λ (n : ℕ). tried (rows_from 3 n) s) board.trimmed.headed.is
-    ∙ goes_on s nothing board_rows _ c.lists.ensures nothing (rows_from 3 (posts s)) _ c.in_ok-lists.was
+    ∙ goes_on s nothing board_rows _ c.sound.ensures nothing (rows_from 3 (posts s)) _ c.in_ok-sound.was
     ∙ ap (λ (z : List ℕ). tried (loaded_rows z) z) c.held-board.ensures
 
 pub returns-clause-kept : goal.returns-clause-kept

@@ -4,7 +4,7 @@ use Rattle.std.proofs.lemmas.Result.{err_from_is_err_and}
 use Rattle.lamp.specs.Lamp.{ring_rows, triangle_rows, outer_rows}
 use Rattle.lamp.specs.Given.{nothing}
 use Rattle.lamp.proofs.Tried.{stops, goes_on}
-use Rattle.lamp.proofs.rules.Board.lists.Goals as goal
+use Rattle.lamp.proofs.rules.Board.sound.Goals as goal
 
 pub returns-in_err-rings : goal.returns-in_err-rings
 returns-in_err-rings c =
