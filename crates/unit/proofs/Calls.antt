@@ -55,14 +55,14 @@ module _ (s : List ℕ) (k : ℕ) where
   pub room_fits : (room : ℕ) → NoneApplies (stage_rows k ++ room_rows k room) s → 2 * k ≤ room
   room_fits room h = ltb-false room (2 * k) (search)
 
-  pub no_name : (u : ℕ) → posts s ≤ u → given (name_rows u) s (λ z. u) ≡ refused (number_of Name) (place_of Name)
-  no_name u h = given_first s (λ z. u) [] (name_row u) [] tt (le-leb (posts s) u h)
+pub no_name : (s : List ℕ) (u : ℕ) → posts s ≤ u → given (name_rows u) s (λ z. u) ≡ refused (number_of Name) (place_of Name)
+no_name s u h = given_first s (λ z. u) [] (name_row u) [] tt (le-leb (posts s) u h)
 
-  pub name_passes : (u : ℕ) → u < posts s → NoneApplies (name_rows u) s
-  name_passes u h = (lt-leb (posts s) u h, tt)
+pub name_passes : (s : List ℕ) (u : ℕ) → u < posts s → NoneApplies (name_rows u) s
+name_passes s u h = (lt-leb (posts s) u h, tt)
 
-  pub name_fits : (u : ℕ) → NoneApplies (stage_rows k ++ name_rows u) s → u < posts s
-  name_fits u h = leb-false (posts s) u (search)
+pub name_fits : (s : List ℕ) (k u : ℕ) → NoneApplies (stage_rows k ++ name_rows u) s → u < posts s
+name_fits s k u h = leb-false (posts s) u (search)
 
 -- ---- a service: check's rows, and its own
 

@@ -53,7 +53,8 @@ impl Held {
         lamp::check_into(s, &mut ds, &mut arrays, &mut self.rank, &mut self.runs)
     }
 
-    // check; the accepted block, which is held.
+    // check; the accepted block, which is held. What is kept is told by one word, Checked, here, above and below: a type of its own would have to own
+    // the arrays before check has filled them.
     pub fn accept<'a>(&mut self, s: &'a [u8]) -> Result<Body<'a>, Refusal>
         ensures refused { IfErr result (λ r. check_reply s.now ≡ refused (number_of r) (place_of r)) }
         ensures accepted { IfOk result (λ b. (b.bytes.now ≡ s.now) × (check_reply s.now ≡ accepted b.block.n)
@@ -66,7 +67,8 @@ impl Held {
         })
     }
 
-    // The lists, the order and the runs of the accepted block that is held.
+    // The lists, the order and the runs of the accepted block that is held. The same fronts of arrays as in lamp, which may know of them only what is
+    // loaded: here they are known to fit.
     pub fn runs(&self, b: Body<'_>) -> Runs<'_>
         requires { (check_reply b.bytes.now ≡ accepted b.block.n)
             × Checked b.bytes.now b.block.n self.now.vs self.now.at self.now.ents self.now.rank self.now.runs }
@@ -96,7 +98,7 @@ impl Held {
     }
 }
 
-// A stage's heights, offsets, covers and neighbours on the contour, and its columns, by name.
+// A stage's heights, offsets, covers and neighbours on the contour, and its columns, by name: six arrays, since the engine is lent slices.
 #[derive(Drop)]
 pub struct Drawn {
     ys: [u16; Block::LIMIT],
@@ -119,7 +121,8 @@ impl Drawn {
         }
     }
 
-    // The sheet of stage k.
+    // The sheet of stage k. Here and below the five arrays are lent as they stand: a function that answered that loan would have to tell in its
+    // contract what comes back of each.
     pub fn sheet(&mut self, runs: Runs<'_>, k: usize, buffer: &mut [u16])
         requires { HasStage runs k × (2 * k ≤ length buffer.old) }
         ensures { buffer.new ≡ entries_of (stage (board runs.entry) (take k (listed runs.entry))) ++ drop (2 * k) buffer.old }

@@ -1,4 +1,4 @@
-// The rows that follow check's.
+// The rows that follow check's. Counts and names are narrowed by `as`, which is proved to lose nothing.
 ghost use Rattle.std.specs.Prelude.{◌≡◌, ◌++◌, ◌*◌};
 ghost use Rattle.lamp.specs.Lamp.{stage_rows, room_rows, name_rows};
 ghost use Rattle.lamp.specs.Given.{reply_of, given, tried};
@@ -30,7 +30,7 @@ pub fn room(b: Body<'_>, k: usize, room: usize) -> Result<u16, Refusal>
     Ok((2 * k) as u16)
 }
 
-// The stage, and the name of a post, which is answered.
+// The stage, and the name of a post, which is answered: another row than the room, and another answer.
 pub fn name(b: Body<'_>, k: usize, u: usize) -> Result<u16, Refusal>
     ensures { reply_of result ≡ given (stage_rows k ++ name_rows u) b.entry.bytes.now (λ z. u) }
 {

@@ -48,9 +48,14 @@ unfolding words_at
 words_length s zero i = refl
 words_length s (suc k) i = ap suc (words_length s k (i + 2))
 
-pub sum_none : sum_of [] ≡ 0
+pub sum_empty : sum_of [] ≡ 0
 unfolding sum_of
-sum_none = refl
+sum_empty = refl
+
+-- none of a list
+pub sum_none : (l : List ℕ) → sum_of (take 0 l) ≡ 0
+unfolding sum_of
+sum_none l = refl
 
 -- a part of a list sums to no more than the list
 pub sum_part : (l : List ℕ) (i : ℕ) → sum_of (take i l) ≤ sum_of l
@@ -69,6 +74,6 @@ filled_front s i m n ents out e room is =
 
 -- ---- what a function that adds up, or that unpacks, names for its goals
 
-pub ruleset sums = (common_steps, sum_none, sum_step, sum_within)
+pub ruleset sums = (common_steps, sum_empty, sum_step, sum_within)
 
 pub ruleset unpacking = (common_steps, take_more_set, words_none, words_step, words_length)

@@ -33,7 +33,7 @@ ends_at-requires c =
     let ok = c.in_ok-b.ensures.accepted in
     let fits = sheet_fits s c.args.k c.args.buffer.now [] _ ok.0 _ ok.1 _ c.room.ensures _ c.in_ok-count.was in
     let many = ap length (c.runs.ensures.order ∙ ap order ok.0) in
-    ((omega (arith, fits.0), omega (arith, fits.0, many, order_length s)), fits.1)
+    ((omega (arith, fits.0), omega (arith, fits.0, many, order_length s)), omega (arith, fits.1))
 
 pub returns : goal.returns
 unfolding ends_after

@@ -16,11 +16,11 @@ returns-in_err-stage c =
 pub returns-then-b-u : goal.returns-then-b-u
 returns-then-b-u c =
     let u = c.args.u in
-    sym (no_name _ c.args.k u (omega (arith, c.args.b.headed.is)))
+    sym (no_name _ u (omega (arith, c.args.b.headed.is)))
     ∙ goes_on _ nothing (stage_rows c.args.k) _ c.stage.ensures (λ z. u) (name_rows u) _ c.in_ok-stage.was
 
 pub returns : goal.returns
 returns c =
     let u = c.args.u in
-    none_stops c.args.b.bytes.now (λ z. u) (name_rows u) (name_passes c.args.b.bytes.now c.args.k u (omega (arith, c.args.b.headed.is)))
+    none_stops c.args.b.bytes.now (λ z. u) (name_rows u) (name_passes c.args.b.bytes.now u (omega (arith, c.args.b.headed.is)))
     ∙ goes_on _ nothing (stage_rows c.args.k) _ c.stage.ensures (λ z. u) (name_rows u) _ c.in_ok-stage.was
