@@ -86,6 +86,7 @@ pub fn is_marked(s: &[u8]) -> bool
     s.starts_with(b"PGB")
 }
 
+// Positions and names are narrowed by `as`, here and below, which is proved to lose nothing: `try_from` would answer an error that cannot come.
 // The first position at fault (N7), if there is one. The names seen so far are marked, a byte for each name, as the paper has it.
 pub fn first_bad_entry(vs: &[u16], marks: &mut [u8]) -> Option<u16>
     requires { (length vs.now ≤ length marks.old) × (length vs.now ≤ limit) × ((a : ℕ) → get_or marks.old a 0 ≡ 0) }
@@ -102,7 +103,8 @@ pub fn first_bad_entry(vs: &[u16], marks: &mut [u8]) -> Option<u16>
     None
 }
 
-// The lowest name whose degree is out of its range (N8), if there is one.
+// The lowest name whose degree is out of its range (N8), if there is one. `position` was tried: with the narrowing after it the goal of its Some
+// (`returns-in-Some`) stayed open; in a function of its own it closes, but that is a second contract for this one loop.
 pub fn first_bad_degree(ds: &[u16]) -> Option<u16>
     requires { (1 ≤ length ds.now) × (length ds.now ≤ limit) }
     ensures { result ≡ first_if 0 (length ds.now) (bad_degree (length ds.now) ds.now) }
@@ -124,7 +126,8 @@ pub fn total(ds: &[u16]) -> usize
     ds.iter().map(|d| usize::from(*d)).sum()
 }
 
-// Where each list begins among all entries, and after the last where it ends.
+// Where each list begins among all entries, and after the last where it ends. By index: over `at.iter_mut().zip(ds)` the goal `returns` stayed open,
+// since of what `iter_mut` has lent a proof knows the length alone afterwards.
 #[tactic(auto, using(words::proofs::Numbers::sums))]
 pub fn starts(ds: &[u16], at: &mut [u16])
     requires { (length ds.now < length at.old) × (sum_of ds.now ≤ 65535) }

@@ -30,6 +30,7 @@ fn refusal_code(r: Refusal) -> u32
     u32::from(t.number) * 65536 + u32::from(t.place)
 }
 
+// One number for a reply: a function and no `From`, since neither type is this crate's.
 fn code(a: Result<u16, Refusal>) -> u32
     ensures { result ≡ code_of (reply_of a) }
 {

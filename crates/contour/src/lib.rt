@@ -11,7 +11,8 @@ ghost use Rattle.contour.specs.Lent.{SameArrays, ReadyIn, OverIn};
 use block::Block;
 
 // The arrays of a contour, lent: of each post by name its height, its offset, the post that covers it, and its neighbours on the contour. They are
-// five arrays, and no array of records, since the five may have any lengths (Ready and Over of specs/Arrays.antt).
+// five arrays, and no array of records, since the five may have any lengths (Ready and Over of specs/Arrays.antt); and neighbours are names, and no
+// boxes, since memory is fixed.
 #[derive(Drop)]
 pub struct Contour<'a> {
     pub ys: &'a mut [u16],
@@ -27,8 +28,8 @@ fn half_drop(far: u16, yp: u16, yq: u16) -> u16
     requires { (yp ≤ far + yq) × (far + yq ≤ 65535) }
     ensures { result ≡ drop_of far yp yq }
 {
-    let d = yq as i32 - yp as i32;
-    ((far as i32 + d) / 2) as u16
+    let d = i32::from(yq) - i32::from(yp);
+    ((i32::from(far) + d) / 2) as u16
 }
 
 // Its height, by the same rule.
@@ -36,7 +37,7 @@ fn half_rise(far: u16, yp: u16, yq: u16) -> u16
     requires { far + yq + yp ≤ 65535 }
     ensures { result ≡ rise_of far yp yq }
 {
-    ((far as i32 + yq as i32 + yp as i32) / 2) as u16
+    ((i32::from(far) + i32::from(yq) + i32::from(yp)) / 2) as u16
 }
 
 // Each post's entry becomes the number beside it, in turn.

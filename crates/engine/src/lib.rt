@@ -1,6 +1,8 @@
 // Reaching a stage of a list of posts that fits so far, in linear time: differences are kept, and no post is moved.
 #![tactic(auto)]
 
+// A stage is a list with its runs and a number k within it, which each contract says by one word, HasStage: a struct of the two would be made at
+// each call. The columns are lent apart from the contour, since they are written while it is read.
 mod records;
 
 ghost use Rattle.std.specs.Prelude.{◌≡◌, ◌++◌, ◌+◌, ◌*◌, ◌≤◌, ◌<◌, length, take, drop};

@@ -50,6 +50,8 @@ fn standing_at(contour: &Contour<'_>, u: u16) -> Standing
     Standing::Covered(c)
 }
 
+// The positions by name are asked for where a record is read, here, in post_at and in unit: whoever keeps a shorter list keeps its own, so they are
+// no part of Runs.
 // The record of post u, from the arrays of stage k.
 fn record_at(
     runs: Runs<'_>,
@@ -102,7 +104,8 @@ pub fn post_at(
     record_at(runs, rank, k, u, contour, xs)
 }
 
-// The ends of the runs of the posts placed at stage k, two entries for each in its turn; the buffer beyond is as it was.
+// The ends of the runs of the posts placed at stage k, two entries for each in its turn; the buffer beyond is as it was. By index, since of the
+// parts that `chunks_exact_mut` lends nothing is known after the loop.
 pub fn ends_at(runs: Runs<'_>, k: usize, buffer: &mut [u16])
     requires { HasStage runs k × (2 * k ≤ length buffer.old) }
     ensures { buffer.new ≡ ends_of (board runs.entry) (take k (listed runs.entry)) ++ drop (2 * k) buffer.old }

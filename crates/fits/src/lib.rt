@@ -9,7 +9,7 @@ ghost use Rattle.lamp.specs.Refusals.{number_of, place_of};
 ghost use Rattle.text.specs.Filling.{filling, filled_with};
 ghost use Rattle.text.specs.Pages.{Writes};
 ghost use Rattle.show.specs.Shown.{refusal_line};
-ghost use Rattle.fits.specs.Fit.{fit_line, lines_from_third, fit_text, longest_fit};
+ghost use Rattle.fits.specs.Fit.{fit_line, lines_from_third, fit_text};
 ghost use Rattle.fits.specs.Entered.{fit_entry_line};
 
 use block::{Block, Body};
@@ -33,7 +33,7 @@ fn fit_line(i: u16, u: u16, l: u16, r: u16, x: u16, y: u16, page: &mut Page)
     page.put(b'\n');
 }
 
-// The lines of the positions from 3 on, from the names, the ends and the sheet's entries.
+// The lines of the positions from 3 on, from the names, the ends and the sheet's entries; positions are narrowed as in show.
 fn fit_lines(vs: &[u16], ends: &[u16], sheet: &[u16], page: &mut Page)
     requires { (3 ≤ length vs.now) × (2 * length vs.now ≤ length ends.now) × (2 * length vs.now ≤ length sheet.now) × (length vs.now ≤ limit) }
     ensures { Writes page.old (lines_from_third (length vs.now) (fit_entry_line vs.now ends.now sheet.now)) page.new }
@@ -95,17 +95,11 @@ pub fn fit(s: &[u8], out: &mut [u8]) -> usize
 // The longest text.
 const FIT: usize = 44 * Block::LIMIT;
 
-fn no_fit_text() -> [u8; FIT]
-    ensures { longest_fit ≡ length result }
-{
-    [0u8; FIT]
-}
-
 // Prints a block's lines, or its refusal.
 pub fn print_fit<W: Write>(to: &mut W, s: &[u8]) -> io::Result<()>
     ensures { OnOk result (Appends (W.contents to.old) (W.contents to.new) (fit_text s.now)) }
 {
-    let mut out = no_fit_text();
+    let mut out = [0u8; FIT];
     let n = fit(s, &mut out);
     print(to, &out[..n])
 }

@@ -14,10 +14,6 @@ use Rattle.order.specs.Ranked.{run_found, RunsBefore}
 use Rattle.order.specs.declared.Run.{Run}
 
 module _ (G : List (List ℕ)) (vs : List ℕ) (runs : List Run) where
-  -- there is none before position 3
-  pub runs_none : RunsBefore G vs runs 3
-  runs_none = record { kept = λ k h i. absurd (omega arith) }
-
   -- one position more, with the run that was found there
   pub runs_more : (k : ℕ) (r : Run) → 1 ≤ k → k ≤ length runs → r ≡ run_found G (earlier vs k) (post vs k) → RunsBefore G vs runs k
       → RunsBefore G vs (set runs (k - 1) r) (k + 1)

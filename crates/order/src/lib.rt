@@ -44,7 +44,7 @@ pub struct Runs<'a> {
     pub ghost kept: { ∥ RunsHeld plan.lists.at.now plan.lists.ents.now plan.vs.now runs.now ∥₁ },
 }
 
-// rank[a] becomes the position of the name a.
+// rank[a] becomes the position of the name a, narrowed by `as`, here and below, which is proved to lose nothing.
 pub fn ranks(vs: &[u16], rank: &mut [u16])
     requires { (length vs.now ≤ limit) × (length vs.now ≤ length rank.old)
         × ((k : ℕ) → 1 ≤ k → k ≤ length vs.now → bad_entry (length vs.now) vs.now k ≡ false) }
@@ -121,6 +121,7 @@ impl<'a> Plan<'a> {
         if 1 < found.runs {
             return Err(Misfit::Broken);
         }
+        // beyond the list where v1 isn't in it, as the definition of a run's begin has it
         let begin = if found.runs == 1 {
             found.begin
         } else {

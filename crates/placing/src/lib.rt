@@ -25,7 +25,8 @@ pub struct Record {
     pub rightmost: u16,
 }
 
-// The first 2k entries of the buffer become the sheet of stage k (R6); the others are not touched (R7).
+// The first 2k entries of the buffer become the sheet of stage k (R6); the others are not touched (R7). By index, since of the
+// parts that `chunks_exact_mut` lends nothing is known after the loop.
 pub fn write_sheet(vs: &[u16], k: usize, xs: &[u16], ys: &[u16], buffer: &mut [u16])
     requires { (k ≤ length vs.now) × (k ≤ limit) × (2 * k ≤ length buffer.old)
         × ((i : ℕ) → i < k → (get_or vs.now i 0 < length xs.now) × (get_or vs.now i 0 < length ys.now)) }

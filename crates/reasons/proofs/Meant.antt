@@ -1,4 +1,4 @@
--- The text of all words has those of each refusal in the line of its number; and how long they are.
+-- How long the words of a refusal are.
 use Prim.Native.Nat.{ℕ, ◌+◌, ◌*◌, ◌≤◌}
 use mathlib.Core.Path.{◌≡◌, refl, ap}
 use mathlib.Core.Bool.{Bool, true, false, cond}
@@ -15,41 +15,6 @@ use Rattle.lamp.specs.declared.Refusal.TheVariants.{Repeated, Unreturned, Triang
 use Rattle.text.specs.Letters.{numbered}
 use Rattle.text.proofs.Numerals.{is_mark, numbered_length}
 use Rattle.reasons.specs.Reasons.{words_of, all_degrees, number_in, whole_board, reason_of, longest_reason}
-use Rattle.reasons.proofs.Table.{table, line_of, line_from, line_at}
-
-at_number : (r : Refusal) → line_at (number_of r) table ≡ words_of r
-unfolding table line_from flat_map numbers refusals_at with_number
-at_number Short = refl
-at_number Mark = refl
-at_number Version = refl
-at_number Posts = refl
-at_number Length = refl
-at_number Sum = refl
-at_number (Order k) = refl
-at_number (Degrees u) = refl
-at_number (High u) = refl
-at_number (Itself u) = refl
-at_number (Repeated u) = refl
-at_number (Unreturned u) = refl
-at_number (Triangle u) = refl
-at_number Outer = refl
-at_number (Few k) = refl
-at_number (Broken k) = refl
-at_number Stage = refl
-at_number Room = refl
-at_number Name = refl
-
-at_zero : line_at 0 table ≡ all_degrees
-unfolding table line_from flat_map numbers refusals_at with_number
-at_zero = refl
-
-pub is_reason : (n : ℕ) (r : Refusal) → numbered (number_in (number_of r) (place_of r)) (line_at (line_of n (number_of r) (place_of r)) table) ≡ reason_of n r
-unfolding reason_of
-is_reason n r = ap (numbered (number_in (number_of r) (place_of r))) (go (whole_board n (number_of r) (place_of r)))
-  where
-    go : (b : Bool) → line_at (cond b 0 (number_of r)) table ≡ cond b all_degrees (words_of r)
-    go true = at_zero
-    go false = at_number r
 
 -- ---- lengths
 

@@ -54,7 +54,7 @@ fn words_of(r: Refusal, n: u16) -> &'static [u8]
     }
 }
 
-// What # stands for.
+// What # stands for; the limit is narrowed by `as`, which loses nothing.
 fn number_in(r: Refusal) -> u16
     ensures { result ≡ number_in (number_of r) (place_of r) }
 {

@@ -83,7 +83,7 @@ fn lines(vs: &[u16], b: &[u16], page: &mut Page)
     }
 }
 
-// Stage k of a block, whose entries stand in `sheet`.
+// Stage k of a block, whose entries stand in `sheet`. The order is read out as in fits, and other lines are made of it.
 fn whole_sheet(b: Body<'_>, k: usize, sheet: &[u16], out: &mut [u8]) -> usize
     requires { (k ≤ b.block.n) × (2 * k ≤ length sheet.now) }
     ensures { filling result out.new ≡ filled_with

@@ -58,6 +58,7 @@ pub fn why(s: &[u8], out: &mut [u8]) -> usize
     ensures { filling result out.new ≡ filled_with (why_text s.now) out.old }
 {
     match unit::check(s) {
+        // where no number is stated, the words do not ask for one
         Err(r) => refused_line(r, stated_posts(s).unwrap_or(0), out),
         Ok(n) => accepted_line(n, out),
     }

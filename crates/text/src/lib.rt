@@ -6,7 +6,8 @@ ghost use Rattle.text.specs.Letters.{decimal, spaced, numeral, numbered};
 ghost use Rattle.text.specs.Said.{said_up_to};
 ghost use Rattle.text.specs.Pages.{Writes};
 
-// A lent buffer, filled with text from its start up to `at`. What finds no room in it is left out.
+// A lent buffer, filled with text from its start up to `at`. What finds no room in it is left out. Whoever begins a text makes one and answers its
+// `at`: a function that did both would take the text as a closure.
 #[derive(Drop)]
 pub struct Page<'a> {
     pub out: &'a mut [u8],
