@@ -86,6 +86,8 @@ pub fn is_marked(s: &[u8]) -> bool
     s.starts_with(b"PGB")
 }
 
+// That a list is no longer than the limit is asked here, in order, show and fits, where places in it are narrowed: it is one length in a contract, and
+// a type for it would be made anew at each call.
 // Positions and names are narrowed by `as`, here and below, which is proved to lose nothing: `try_from` would answer an error that cannot come.
 // The first position at fault (N7), if there is one. The names seen so far are marked, a byte for each name, as the paper has it.
 pub fn first_bad_entry(vs: &[u16], marks: &mut [u8]) -> Option<u16>

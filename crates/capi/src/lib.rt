@@ -23,6 +23,7 @@ pub struct PostReply {
     pub fit_right: u16,
 }
 
+// A refusal's number; below, a reply's. Functions and no `From`, since none of the types is this crate's.
 fn refusal_code(r: Refusal) -> u32
     ensures { result ≡ refusal_code (number_of r) (place_of r) }
 {
@@ -30,7 +31,7 @@ fn refusal_code(r: Refusal) -> u32
     u32::from(t.number) * 65536 + u32::from(t.place)
 }
 
-// One number for a reply: a function and no `From`, since neither type is this crate's.
+// One number for a reply.
 fn code(a: Result<u16, Refusal>) -> u32
     ensures { result ≡ code_of (reply_of a) }
 {

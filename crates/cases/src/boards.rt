@@ -1,5 +1,5 @@
 // The blocks of the cases E1 to E11, byte by byte: the very ones that the table of starred cases speaks of (lists.rt has those of E12 to E16,
-// over.rt that of E17).
+// over.rt that of E17). Each stands whole, to be read byte by byte.
 ghost use Rattle.std.specs.Prelude.{◌≡◌, [], ◌∷◌};
 ghost use Rattle.rings.specs.Boards.{order_d};
 ghost use Rattle.unit.specs.Starred.{T, D};

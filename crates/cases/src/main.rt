@@ -92,6 +92,7 @@ fn heads<W: Write>(to: &mut W) -> io::Result<()> {
     check(to, b"10. a block of 6 bytes: ", &d[..6])?;
     d[6] = 2;
     check(to, b"10. n = 2: ", &d)?;
+    // narrowed by `as`, which loses nothing
     let [high, low] = (Block::LIMIT as u16 + 1).to_be_bytes();
     d[5] = high;
     d[6] = low;

@@ -12,7 +12,7 @@ use block::Block;
 
 // The arrays of a contour, lent: of each post by name its height, its offset, the post that covers it, and its neighbours on the contour. They are
 // five arrays, and no array of records, since the five may have any lengths (Ready and Over of specs/Arrays.antt); and neighbours are names, and no
-// boxes, since memory is fixed.
+// boxes, since memory is fixed. SameArrays ties what is lent before a call to what is lent after it, which no type can.
 #[derive(Drop)]
 pub struct Contour<'a> {
     pub ys: &'a mut [u16],

@@ -2,7 +2,8 @@
 #![tactic(auto)]
 
 // A stage is a list with its runs and a number k within it, which each contract says by one word, HasStage: a struct of the two would be made at
-// each call. The columns are lent apart from the contour, since they are written while it is read.
+// each call. The columns are lent apart from the contour, since they are written while it is read. Room for all posts is asked where arrays are lent:
+// it ties them to the rings, and a contour alone may have any lengths.
 mod records;
 
 ghost use Rattle.std.specs.Prelude.{◌≡◌, ◌++◌, ◌+◌, ◌*◌, ◌≤◌, ◌<◌, length, take, drop};

@@ -104,8 +104,8 @@ pub fn post_at(
     record_at(runs, rank, k, u, contour, xs)
 }
 
-// The ends of the runs of the posts placed at stage k, two entries for each in its turn; the buffer beyond is as it was. By index, since of the
-// parts that `chunks_exact_mut` lends nothing is known after the loop.
+// The ends of the runs of the posts placed at stage k, two entries for each in its turn; the buffer beyond is as it was. By index, as in
+// block::starts: of what an adapter of `iter_mut` has lent, a proof knows the length alone.
 pub fn ends_at(runs: Runs<'_>, k: usize, buffer: &mut [u16])
     requires { HasStage runs k × (2 * k ≤ length buffer.old) }
     ensures { buffer.new ≡ ends_of (board runs.entry) (take k (listed runs.entry)) ++ drop (2 * k) buffer.old }

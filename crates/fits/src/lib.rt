@@ -51,7 +51,7 @@ fn fit_lines(vs: &[u16], ends: &[u16], sheet: &[u16], page: &mut Page)
     }
 }
 
-// A block, whose ends and entries of the last stage stand in the two buffers.
+// A block, whose ends and entries of the last stage stand in the two buffers; the order is read out as in show::whole_sheet.
 fn whole_fit(b: Body<'_>, ends: &[u16], sheet: &[u16], out: &mut [u8]) -> usize
     requires { (2 * b.block.n ≤ length ends.now) × (2 * b.block.n ≤ length sheet.now) }
     ensures { filling result out.new ≡ filled_with
@@ -95,7 +95,7 @@ pub fn fit(s: &[u8], out: &mut [u8]) -> usize
 // The longest text.
 const FIT: usize = 44 * Block::LIMIT;
 
-// Prints a block's lines, or its refusal.
+// Prints a block's lines, or its refusal; a function of its own, as show::print_last says.
 pub fn print_fit<W: Write>(to: &mut W, s: &[u8]) -> io::Result<()>
     ensures { OnOk result (Appends (W.contents to.old) (W.contents to.new) (fit_text s.now)) }
 {

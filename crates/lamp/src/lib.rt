@@ -93,8 +93,8 @@ fn order_in(b: Body<'_>, vs: &mut [u16]) -> Result<(), Refusal>
     }
 }
 
-// The degrees and their total, which the order has not; ds becomes the degrees. The name n, which no post has, tells that they are wrong together, as
-// the table has it; it is narrowed by `as`, which is proved to lose nothing.
+// The degrees and their total, which the order has not, so that one function for both would take two steps as closures; ds becomes the degrees. The
+// name n, which no post has, tells that they are wrong together, as the table has it; it is narrowed by `as`, which is proved to lose nothing.
 fn degrees_in(b: Body<'_>, ds: &mut [u16]) -> Result<(), Refusal>
     requires { limit ≤ length ds.old }
     ensures { (reply_of result ≡ tried degree_rows b.entry.bytes.now) × (take b.entry.block.n ds.new ≡ degrees b.entry.bytes.now) }

@@ -102,7 +102,7 @@ impl<'a> Board<'a> {
     }
 
     // The rule per position, at positions 3 to n in turn. Where it holds at all of them, the run of each is kept.
-    // `3..=n` would leave the loop from within, and the goals of its end would be shown twice.
+    // `3..=n` was tried: it leaves the loop from within too, and the goals of that exit (`returns-in_ok-runs-..`) stayed open.
     pub fn fitting(self, rank: &[u16], runs: &mut [Run]) -> Result<(), Refusal>
         requires { Ranked self.plan.vs.now rank.now × Ringed self.s.now × (length self.plan.vs.now ≤ length runs.old) }
         ensures reply { reply_of result ≡ tried (rows_from 3 (length self.entry.plan.vs.now)) self.entry.s.now }

@@ -15,7 +15,7 @@ pub enum Standing {
 }
 
 // A post's record at a stage. A placed post was fitted between its leftmost and its rightmost neighbour of those placed before it; v1, v2 and a
-// post that waits carry their own names there.
+// post that waits carry their own names there (rules R1, R8 and the C interface).
 #[derive(Clone, Copy)]
 pub struct Record {
     pub x: u16,
@@ -25,8 +25,8 @@ pub struct Record {
     pub rightmost: u16,
 }
 
-// The first 2k entries of the buffer become the sheet of stage k (R6); the others are not touched (R7). By index, since of the
-// parts that `chunks_exact_mut` lends nothing is known after the loop.
+// The first 2k entries of the buffer become the sheet of stage k (R6); the others are not touched (R7). By index: over
+// `chunks_exact_mut` the edit one_entry_too_many would not mean the same, and of the parts lent a proof knows the length alone.
 pub fn write_sheet(vs: &[u16], k: usize, xs: &[u16], ys: &[u16], buffer: &mut [u16])
     requires { (k ≤ length vs.now) × (k ≤ limit) × (2 * k ≤ length buffer.old)
         × ((i : ℕ) → i < k → (get_or vs.now i 0 < length xs.now) × (get_or vs.now i 0 < length ys.now)) }

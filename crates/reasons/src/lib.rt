@@ -54,7 +54,8 @@ fn words_of(r: Refusal, n: u16) -> &'static [u8]
     }
 }
 
-// What # stands for; the limit is narrowed by `as`, which loses nothing.
+// What # stands for: a number in a text, which one refusal alone does not give as its place, so no `From`; the limit is narrowed by `as`, which loses
+// nothing.
 fn number_in(r: Refusal) -> u16
     ensures { result ≡ number_in (number_of r) (place_of r) }
 {

@@ -43,7 +43,8 @@ fn after(list: &[u16], i: usize) -> u16
     list[0]
 }
 
-// In a list that is read around, c follows a.
+// In a list that is read around, c follows a. By hand: it is two neighbours that are looked for, the last and the first too, and no method of slices
+// goes around.
 fn is_next(list: &[u16], a: u16, c: u16) -> bool
     ensures { result ≡ next a c (around list.now) }
 {
@@ -98,7 +99,7 @@ impl<'a> Lists<'a> {
     }
 
     // The fault of the first bad entry in the lowest list that breaks G3. That there are places, and no more than the limit, is asked by what goes over
-    // all names alone: the rest serves lists of any number.
+    // all names alone: the rest serves lists of any number. Their number is narrowed by `as`, here and below, which is proved to lose nothing.
     pub fn first_bad_ring(self) -> Result<(), ListFault>
         requires { (1 ≤ length self.at.now) × (length self.at.now ≤ limit + 1) }
         ensures { result ≡ fault_of (rings_of self.entry) }

@@ -83,7 +83,8 @@ fn lines(vs: &[u16], b: &[u16], page: &mut Page)
     }
 }
 
-// Stage k of a block, whose entries stand in `sheet`. The order is read out as in fits, and other lines are made of it.
+// Stage k of a block, whose entries stand in `sheet`. The order is read out as in fits, and other lines
+// are made of it: a common function would have to hand back the array.
 fn whole_sheet(b: Body<'_>, k: usize, sheet: &[u16], out: &mut [u8]) -> usize
     requires { (k ≤ b.block.n) × (2 * k ≤ length sheet.now) }
     ensures { filling result out.new ≡ filled_with
@@ -176,7 +177,8 @@ pub fn print<W: Write>(to: &mut W, t: &[u8]) -> io::Result<()>
     to.write_all(t)
 }
 
-// A function for each text: one over the function that fills the buffer would tell the text by `F.post`, in more words than these bodies have.
+// A function for each text, here, in plain.rt and in fits: one over the function that fills the buffer would tell the text by `F.post`, in more words
+// than these bodies have.
 // Prints a block's last sheet, or its refusal: what is handed to the writer is the whole text.
 pub fn print_last<W: Write>(to: &mut W, s: &[u8]) -> io::Result<()>
     ensures { OnOk result (Appends (W.contents to.old) (W.contents to.new) (last_text s.now)) }

@@ -64,7 +64,7 @@ pub fn why(s: &[u8], out: &mut [u8]) -> usize
     }
 }
 
-// Prints a block's reply in plain words.
+// Prints a block's reply in plain words; a function of its own, as print_last says.
 pub fn print_why<W: Write>(to: &mut W, s: &[u8]) -> io::Result<()>
     ensures { OnOk result (Appends (W.contents to.old) (W.contents to.new) (why_text s.now)) }
 {

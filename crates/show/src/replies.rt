@@ -84,6 +84,7 @@ fn placed(r: Record, page: &mut Page)
     page.spaced(r.rightmost);
 }
 
+// As answer, of a record: each text is a definition of its own.
 fn posted(p: Result<Record, Refusal>, page: &mut Page)
     ensures { Writes page.old (record_text (reply_of p)) page.new }
 {

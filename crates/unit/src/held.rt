@@ -67,8 +67,8 @@ impl Held {
         })
     }
 
-    // The lists, the order and the runs of the accepted block that is held. The same fronts of arrays as in lamp, which may know of them only what is
-    // loaded: here they are known to fit.
+    // The lists, the order and the runs of the accepted block that is held. The same fronts of arrays as in
+    // lamp's Board, which is private: a common function would be a public one, whose contract says again what these two say.
     pub fn runs(&self, b: Body<'_>) -> Runs<'_>
         requires { (check_reply b.bytes.now ≡ accepted b.block.n)
             × Checked b.bytes.now b.block.n self.now.vs self.now.at self.now.ents self.now.rank self.now.runs }

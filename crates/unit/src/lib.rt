@@ -33,7 +33,7 @@ pub fn sheet(s: &[u8], k: usize, buffer: &mut [u16]) -> Result<u16, Refusal>
 }
 
 // ends: replies as sheet does, and writes the two ends of the run of each post placed, where sheet writes its x and y. What the two share stands in
-// held and rows; they are two services.
+// held and rows; one function for both would take what fills the buffer as a closure, and tell it by `F.post`.
 pub fn ends(s: &[u8], k: usize, buffer: &mut [u16]) -> Result<u16, Refusal>
     ensures { EndsPromise s.now k buffer.old result buffer.new }
 {

@@ -30,7 +30,8 @@ pub fn room(b: Body<'_>, k: usize, room: usize) -> Result<u16, Refusal>
     Ok((2 * k) as u16)
 }
 
-// The stage, and the name of a post, which is answered: another row than the room, and another answer.
+// The stage, and the name of a post, which is answered: another row than the room, and another answer,
+// which one function for both would take as arguments.
 pub fn name(b: Body<'_>, k: usize, u: usize) -> Result<u16, Refusal>
     ensures { reply_of result ≡ given (stage_rows k ++ name_rows u) b.entry.bytes.now (λ z. u) }
 {
