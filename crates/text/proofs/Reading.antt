@@ -11,6 +11,8 @@ use borrow.Author.Tests.{leb-true}
 use lib.Dec.{leb}
 use Rattle.words.proofs.Tests.{holds, is_true, both}
 use Rattle.std.specs.Prelude.{None}
+use Rattle.std.specs.Ordering.{is_le, nat_cmp}
+use Rattle.std.proofs.lemmas.Bool.Decides.{nat_tests}
 use Rattle.text.specs.Letters.{is_digit, all_digits, value_after}
 use Rattle.text.specs.Said.{said_up_to}
 
@@ -40,6 +42,10 @@ not_digits (x ∷ w) (suc i) h e = rw (not_digits w i (omega arith) e) (no_right
 pub said_other : (most : ℕ) (w : List ℕ) (i : ℕ) → i < length w → is_digit (get_or w i 0) ≡ false → None ≡ said_up_to most w
 said_other most [] i h e = refl
 said_other most (c ∷ w) i h e = rw (not_digits (c ∷ w) i h e) refl
+
+-- a digit, as the range from a to b tells it
+pub digit_test : (a b c : ℕ) → a ≡ 48 → b ≡ 57 → is_digit c ≡ (is_le (nat_cmp a c) && is_le (nat_cmp c b))
+digit_test a b c low high = rw (low, high) (grind (arith, nat_tests))
 
 -- a digit more of a number that is cut off at m
 pub digit_more : (a v m c : ℕ) → v ≡ min a m → is_digit c ≡ true → min (v * 10 + (c - 48)) m ≡ min (a * 10 + c - 48) m

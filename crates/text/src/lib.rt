@@ -83,7 +83,7 @@ pub fn said(word: &[u8], most: u16) -> Option<usize>
     let most = usize::from(most);
     let mut said = 0;
     for c in word {
-        if !c.is_ascii_digit() {
+        if !(b'0'..=b'9').contains(c) {
             return None;
         }
         said = (said * 10 + usize::from(*c - b'0')).min(most);
