@@ -1,4 +1,4 @@
-use Rattle.std.proofs.Common.{ℕ, List, ◌++◌, ◌*◌, take, drop, ap, sym, ◌∙◌, rules}
+use Rattle.std.proofs.Common.{ℕ, List, ◌++◌, ◌*◌, get_or, take, drop, ap, sym, ◌∙◌, rules}
 use Rattle.std.proofs.lemmas.List.{get_or-take}
 use Rattle.placing.proofs.Writing.{write_start, write_done, write_again, pairs_twos}
 use Rattle.placing.proofs.write_sheet.Goals as goal
@@ -9,7 +9,8 @@ loop-i-init c = write_start _ _ _ _ _
 pub loop-i-preserved : goal.loop-i-preserved
 loop-i-preserved c =
     let u = c.from-u.ensures ∙ get_or-take c.args.k c.args.vs.now c.loop-i.i 0 (search rules) in
-    write_again c.loop-i.invariant (search rules) c.requires.0 c.requires.2 (cc) (cc)
+    write_again c.loop-i.invariant (search rules) c.requires.0 c.requires.2
+    (ap (λ (n : ℕ). get_or c.args.xs.now n 0) u) (ap (λ (n : ℕ). get_or c.args.ys.now n 0) u)
 
 pub returns : goal.returns
 returns c =

@@ -16,13 +16,15 @@ returns-then-found-lt2 c =
 pub returns-then-found-gt1 : goal.returns-then-found-gt1
 returns-then-found-gt1 c =
     let found = rw c.ring-ring.ensures.is at c.pass_over-found.ensures in
-    rule_broken _ _ _ c.requires.0 _ c.requires.2 c.requires.3 _ _ _ found c.if-found-lt2.false c.if-found-gt1.true
+    rule_broken _ _ _ c.requires.0 _ c.requires.2 c.requires.3 _ _ _ found
+    (omega (arith, c.if-found-lt2.false)) (omega (arith, c.if-found-gt1.true))
 
 pub overflow_cast-result : goal.overflow_cast-result
 overflow_cast-result c =
     let found = rw c.ring-ring.ensures.is at c.pass_over-found.ensures in
     let good =
-    rule_good _ _ _ c.requires.0 _ c.requires.2 c.requires.3 _ _ _ found c.if-found-lt2.false c.if-found-gt1.false c.if-found-eq1.begin
+    rule_good _ _ _ c.requires.0 _ c.requires.2 c.requires.3 _ _ _ found (omega (arith, c.if-found-lt2.false))
+    (omega (arith, c.if-found-gt1.false)) c.if-found-eq1.begin
     (elim c.if-found-eq1.branch [
       | then-found-eq1 w ↦ inl (w.if-found-eq1.true, w.begin-is)
       | else-found-eq1 w ↦ inr (w.if-found-eq1.false, w.begin-is ∙ rw (w.place_of.ensures, c.ring-ring.ensures.is) at w.unwrap_or-begin.ensures)
@@ -38,7 +40,8 @@ overflow_cast-result-2 c =
 pub returns : goal.returns
 returns c =
     let found = rw c.ring-ring.ensures.is at c.pass_over-found.ensures in
-    (rule_good _ _ _ c.requires.0 _ c.requires.2 c.requires.3 _ _ _ found c.if-found-lt2.false c.if-found-gt1.false c.if-found-eq1.begin
+    (rule_good _ _ _ c.requires.0 _ c.requires.2 c.requires.3 _ _ _ found (omega (arith, c.if-found-lt2.false))
+    (omega (arith, c.if-found-gt1.false)) c.if-found-eq1.begin
     (elim c.if-found-eq1.branch [
       | then-found-eq1 w ↦ inl (w.if-found-eq1.true, w.begin-is)
       | else-found-eq1 w ↦ inr (w.if-found-eq1.false, w.begin-is ∙ rw (w.place_of.ensures, c.ring-ring.ensures.is) at w.unwrap_or-begin.ensures)
