@@ -99,6 +99,10 @@ module _ (a b : ℕ) where
   next_start [] h = absurd (omega arith)
   next_start (y ∷ l) h = rw (← last_at 0 (y ∷ l) h) (sym (next_append y l y))
 
+  -- read around, the list begins with what is the last entry
+  pub next_begins : (l : List ℕ) (w : ℕ) → 0 < length l → w ≡ get_or l (length l - 1) 0 → next a b (w ∷ l) ≡ next a b (around l)
+  next_begins l w h e = rw e (next_start l h)
+
   pub next_none : (l : List ℕ) → length l ≤ 0 → false ≡ next a b (around l)
   unfolding next around
   next_none [] h = refl
