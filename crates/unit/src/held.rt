@@ -1,5 +1,6 @@
 // The arrays of a call, on the stack, as long as the longest block needs: in Held a checked block, in Drawn a stage of it.
-ghost use Rattle.std.specs.Prelude.{◌≡◌, ◌++◌, ◌*◌, ◌≤◌, ◌<◌, length, take, drop, IfOk, IfErr};
+ghost use Rattle.std.specs.Prelude.{◌≡◌, ◌++◌, ◌+◌, ◌*◌, ◌≤◌, ◌<◌, length, take, drop, IfOk, IfErr};
+ghost use Rattle.block.specs.Layout.{limit, entries};
 ghost use Rattle.block.specs.Block.{order, lists};
 ghost use Rattle.order.specs.Ranked.{RankedBelow};
 ghost use Rattle.lamp.specs.Refusals.{number_of, place_of};
@@ -29,7 +30,10 @@ pub struct Held {
 }
 
 impl Held {
-    pub fn new() -> Held {
+    pub fn new() -> Held
+        ensures { (limit ≤ length result.vs) × (limit + 1 ≤ length result.at) × (entries limit ≤ length result.ents)
+            × (limit ≤ length result.rank) × (limit ≤ length result.runs) }
+    {
         Held {
             vs: [0u16; Block::LIMIT],
             at: [0u16; PLACES],
@@ -110,7 +114,10 @@ pub struct Drawn {
 }
 
 impl Drawn {
-    pub fn new() -> Drawn {
+    pub fn new() -> Drawn
+        ensures { (limit ≤ length result.ys) × (limit ≤ length result.off) × (limit ≤ length result.cover)
+            × (limit ≤ length result.left) × (limit ≤ length result.right) × (limit ≤ length result.xs) }
+    {
         Drawn {
             ys: [0u16; Block::LIMIT],
             off: [0u16; Block::LIMIT],

@@ -39,9 +39,9 @@ pub fn ends(s: &[u8], k: usize, buffer: &mut [u16]) -> Result<u16, Refusal>
 {
     let mut held = Held::new();
     let b = held.accept(s)?;
-    let count = rows::room(b, k, buffer.len())?;
+    let entries = rows::room(b, k, buffer.len())?;
     engine::ends_at(held.runs(b), k, buffer);
-    Ok(count)
+    Ok(entries)
 }
 
 // post: any bytes, any stage, any name; accepted with the post's record at that stage, or the refusal that the table fixes.
