@@ -9,7 +9,7 @@ ghost use Rattle.lamp.specs.Refusals.{number_of, place_of};
 ghost use Rattle.text.specs.Filling.{filling, filled_with};
 ghost use Rattle.text.specs.Pages.{Writes};
 ghost use Rattle.show.specs.Shown.{refusal_line};
-ghost use Rattle.fits.specs.Fit.{fit_line, lines_from_third, fit_text};
+ghost use Rattle.fits.specs.Fit.{fit_line, lines_from_third, fit_text, longest_fit};
 ghost use Rattle.fits.specs.Entered.{fit_entry_line};
 
 use block::{Block, Body};
@@ -95,11 +95,18 @@ pub fn fit(s: &[u8], out: &mut [u8]) -> usize
 // The longest text.
 const FIT: usize = 44 * Block::LIMIT;
 
+// A function, so that its contract ties FIT to the definition.
+fn no_fit_text() -> [u8; FIT]
+    ensures { longest_fit ≡ length result }
+{
+    [0u8; FIT]
+}
+
 // Prints a block's lines, or its refusal; a function of its own, as show::print_last says.
 pub fn print_fit<W: Write>(to: &mut W, s: &[u8]) -> io::Result<()>
     ensures { OnOk result (Appends (W.contents to.old) (W.contents to.new) (fit_text s.now)) }
 {
-    let mut out = [0u8; FIT];
+    let mut out = no_fit_text();
     let n = fit(s, &mut out);
     print(to, &out[..n])
 }
