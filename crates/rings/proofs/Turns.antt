@@ -99,7 +99,7 @@ module _ (a b : ℕ) where
   next_start [] h = absurd (omega arith)
   next_start (y ∷ l) h = rw (← last_at 0 (y ∷ l) h) (sym (next_append y l y))
 
-  -- read around, the list begins with what is the last entry
+  -- in a list that is read around, the last entry stands before the first
   pub next_begins : (l : List ℕ) (w : ℕ) → 0 < length l → w ≡ get_or l (length l - 1) 0 → next a b (w ∷ l) ≡ next a b (around l)
   next_begins l w h e = rw e (next_start l h)
 

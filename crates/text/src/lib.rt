@@ -83,6 +83,7 @@ pub fn said(word: &[u8], most: u16) -> Option<usize>
     let most = usize::from(most);
     let mut said = 0;
     for c in word {
+        // a range, so that both of its ends stand here and can be tried
         if !(b'0'..=b'9').contains(c) {
             return None;
         }
